@@ -1,0 +1,9 @@
+pub mod Decimal
+pub mod Check
+pub mod Fields
+pub mod Cases
+pub mod RoundTrip
+pub mod Damage
+pub mod Loops
+pub mod Reading
+pub mod Writing

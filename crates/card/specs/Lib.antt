@@ -1,0 +1,4 @@
+pub mod Decimal
+pub mod Card
+pub mod Steps
+pub mod Laws

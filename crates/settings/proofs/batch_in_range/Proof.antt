@@ -1,0 +1,18 @@
+-- `settings::batch_in_range` meets its contract: the definition is the two tests joined. Assumes nothing.
+use borrow.Author.Needs.{needs}
+use Rattle.settings.specs.Ranges.{batchInRange}
+use Rattle.settings.proofs.batch_in_range.Statement.{statement}
+use Rattle.settings.proofs.batch_in_range.Tie as tie
+
+within-requires : tie.Need-within-requires
+within-requires c κs = search needs
+
+within-requires-2 : tie.Need-within-requires-2
+within-requires-2 c κs = search needs
+
+returns : tie.Need-returns
+unfolding batchInRange
+returns c = cc
+
+pub batch-in-range-spec : {M : Type 1} → statement M
+batch-in-range-spec = tie.close (tie.spec within-requires within-requires-2 returns)

@@ -1,0 +1,7 @@
+//! A plain second implementation of document 01, written from that document alone.
+//! It shares no code with the library it checks, and prefers the document's own
+//! words to speed: where the two disagree, one of them misreads the document.
+#![forbid(unsafe_code)]
+
+pub mod card;
+pub mod refusal;
