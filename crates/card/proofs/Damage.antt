@@ -15,7 +15,7 @@ use Rattle.card.specs.declared.CardRead.the-variants.{Refused}
 use Rattle.card.specs.Decimal.{isDigit, allDigits, decimal}
 use Rattle.card.specs.Card.{cardLength, readCard}
 use Rattle.card.specs.Laws.{exchange, Changed-refused, Exchanged-refused}
-use Rattle.card.proofs.Decimal.{digit-range, all-at, all-set, decimal-set}
+use Rattle.card.proofs.Decimal.{Digit, digit-range, all-at, all-set, decimal-set}
 use Rattle.card.proofs.Check.{cancel, same-weight}
 use Rattle.card.proofs.Cases.{Twenty, Good, good, wrong-check}
 
@@ -83,19 +83,27 @@ exchanged-refused c s accepted i j within-i within-j other =
     apart : i ≡ j → ⊥
     apart e = other (ap (λ (k : ℕ). getD c k 0) e)
 
+    sum : decimal (exchange c i j) + (getD c j 0 - 48) * weight j + (getD c i 0 - 48) * weight i ≡ decimal c + (getD c j 0 - 48) * weight i + (getD c i 0 - 48) * weight j
+    sum = exchange-sum c t i j within-i within-j apart
+
+    x : Digit (getD c i 0)
+    x = digit-range (getD c i 0) (digit-at c t i j within-i within-j apart i within-i)
+
+    y : Digit (getD c j 0)
+    y = digit-range (getD c j 0) (digit-at c t i j within-i within-j apart j within-j)
+
     split : decimal (exchange c i j) % 97 ≡ 1 → Dec (getD c i 0 ≤ getD c j 0) → ⊥
     split right (yes le) =
-        let x = digit-range (getD c i 0) (digit-at c t i j within-i within-j apart i within-i) in
-        let y = digit-range (getD c j 0) (digit-at c t i j within-i within-j apart j within-j) in
-        let sum = exchange-sum c t i j within-i within-j apart in
+        let x′ = x in
+        let y′ = y in
         let ne = other in
         let same = collide (getD c i 0 - 48) (getD c j 0 - 48) (cardLength - suc i) (cardLength - suc j) (decimal c) (decimal (exchange c i j))
         (omega arith) (omega arith) (omega arith) (omega arith) sum (g .leaves) right in
         apart (omega arith)
     split right (no gt) =
-        let x = digit-range (getD c i 0) (digit-at c t i j within-i within-j apart i within-i) in
-        let y = digit-range (getD c j 0) (digit-at c t i j within-i within-j apart j within-j) in
-        let sum = exchange-sum c t i j within-i within-j apart in
+        let x′ = x in
+        let y′ = y in
+        let s′ = sum in
         let same = collide (getD c j 0 - 48) (getD c i 0 - 48) (cardLength - suc j) (cardLength - suc i) (decimal c) (decimal (exchange c i j))
         (omega arith) (omega arith) (omega arith) (omega arith) (omega arith) (g .leaves) right in
         apart (omega arith)

@@ -22,7 +22,7 @@ use Rattle.card.specs.declared.Parsed.the-variants.{Number, Other}
 use Rattle.card.specs.Decimal.{allDigits, decimal}
 use Rattle.card.specs.Card.{checkMin, checkMax, cardLength, field, settingsOn, twentyDigits, checkRight, checkOf, readCard}
 use Rattle.card.specs.Steps.{numberIn, settingsIn}
-use Rattle.card.proofs.Decimal.{all-append, all-take, all-drop}
+use Rattle.card.proofs.Decimal.{all-append}
 use Rattle.card.proofs.Check.{check-range, check-right, check-only}
 use Rattle.card.proofs.Fields.{Payload, payload-parts}
 use Rattle.card.proofs.Cases.{Twenty, is-twenty}
@@ -62,18 +62,11 @@ not-digits : (c : List ℕ) → allDigits c ≡ false → Refused cardDigits ≡
 unfolding readCard twentyDigits
 not-digits c h = rw (h, and-false (eqb (length c) cardLength))
 
-pub front-other : (c : List ℕ) (n : ℕ) → numberIn (take n c) ≡ Other → Refused cardDigits ≡ readCard c
-front-other c n h = not-digits c (go (allDigits c) refl)
+pub part-other : (c part : List ℕ) → (allDigits c ≡ true → allDigits part ≡ true) → numberIn part ≡ Other → Refused cardDigits ≡ readCard c
+part-other c part each h = not-digits c (go (allDigits c) refl)
   where
     go : (b : Bool) → allDigits c ≡ b → allDigits c ≡ false
-    go true e = let t = all-take n c e in let f = is-other (take n c) h in cc
-    go false e = e
-
-pub back-other : (c : List ℕ) (n : ℕ) → numberIn (drop n c) ≡ Other → Refused cardDigits ≡ readCard c
-back-other c n h = not-digits c (go (allDigits c) refl)
-  where
-    go : (b : Bool) → allDigits c ≡ b → allDigits c ≡ false
-    go true e = let t = all-drop n c e in let f = is-other (drop n c) h in cc
+    go true e = let t = each e in let f = is-other part h in cc
     go false e = e
 
 -- twenty digits by their payload and check

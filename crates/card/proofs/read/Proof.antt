@@ -5,10 +5,11 @@ use mathlib.Core.List.{List}
 use Prim.Native.Nat.{ℕ}
 use native.Mathlib.Omega.{arith}
 use borrow.Author.Tests.{not-true, not-false}
-use lib.ListN.{length, length-take}
+use lib.ListN.{length, take, drop, length-take}
 use lib.Seq.{length-take-le}
 use Rattle.card.specs.Steps.{numberIn}
-use Rattle.card.proofs.Reading.{tail, Split, split, wrong-length, front-other, back-other, check-wrong, out-of-range, accepted}
+use Rattle.card.proofs.Decimal.{all-take, all-drop}
+use Rattle.card.proofs.Reading.{tail, Split, split, wrong-length, part-other, check-wrong, out-of-range, accepted}
 use borrow.Author.Needs.{needs}
 use Rattle.card.proofs.read.Statement.{statement}
 use Rattle.card.proofs.read.Tie as tie
@@ -40,7 +41,7 @@ enum-told : tie.Need-enum-told
 enum-told c = search needs
 
 returns-2 : tie.Need-returns-2
-returns-2 c = front-other _ 18 (sym (c .before .before .number .ensures) ∙ c .enum-told .given .1)
+returns-2 c = part-other (bytes (c .before .before .before .before .before .before)) (take 18 (bytes (c .before .before .before .before .before .before))) (all-take 18 _) (sym (c .before .before .number .ensures) ∙ c .enum-told .given .1)
 
 sub-number : tie.Need-sub-number
 sub-number c = search needs
@@ -61,7 +62,7 @@ enum-told-2 : tie.Need-enum-told-2
 enum-told-2 c = search needs
 
 returns-3 : tie.Need-returns-3
-returns-3 c = back-other _ 18 (sym (c .before .before .number2 .ensures ∙ ap numberIn (tail (bytes (c .before .before .before .before .before .before .before .before .before .before .before)) 18)) ∙ c .enum-told2 .given .1)
+returns-3 c = part-other (bytes (c .before .before .before .before .before .before .before .before .before .before .before)) (drop 18 (bytes (c .before .before .before .before .before .before .before .before .before .before .before))) (all-drop 18 _) (sym (c .before .before .number2 .ensures ∙ ap numberIn (tail (bytes (c .before .before .before .before .before .before .before .before .before .before .before)) 18)) ∙ c .enum-told2 .given .1)
 
 check-of-requires : tie.Need-check-of-requires
 check-of-requires c κs = search needs
