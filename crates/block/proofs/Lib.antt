@@ -1,0 +1,4 @@
+pub mod Cases
+pub mod Readers
+pub mod Reasons
+pub mod Reserved

@@ -1,0 +1,65 @@
+-- Why a block read by itself is dropped: D1, D2 or D3, so never D4, `Never-unmeasured` of specs/Laws.antt.
+-- Assumes nothing.
+use Prim.Native.Nat.{ℕ, _*_, _<_}
+use mathlib.Core.Path.{_≡_}
+use mathlib.Core.Bool.{Bool, true, false, cond, _&&_}
+use mathlib.Core.List.{List}
+use native.Mathlib.Omega.{arith}
+use lib.Dec.{eqb}
+use lib.ListN.{length}
+use Rattle.refusal.specs.Answer.{unless}
+use Rattle.wire.specs.BigEndian.{be16}
+use Rattle.block.specs.declared.Block.{Block}
+use Rattle.block.specs.declared.BlockRead.{BlockRead}
+use Rattle.block.specs.declared.BlockRead.the-variants.{Typed, Unknown, Dropped}
+use Rattle.block.specs.Types.{measurementType, lossType, discardType, effectiveType, streamsType, measurementWords, lossWords, discardWords, effectiveWords, streamsWords, badSize, badFlag, badRate, unmeasured}
+use Rattle.block.specs.Layouts.{flagIn}
+use Rattle.block.specs.Reading.{flagGood, rateGood, summaryFault, sized, summary, readMeasurement, readLoss, readDiscard, readEffective, readStreams, readBlock}
+use Rattle.block.specs.Laws.{Never-unmeasured}
+
+-- an answer that is not D4
+abbrev Own : BlockRead → Type 0
+Own answer = answer ≡ Dropped unmeasured → ⊥
+
+own-typed : (b : Block) → Own (Typed b)
+own-typed b h = let z : _≡_ {A = ℕ} 0 1 = cc in omega arith
+
+own-unknown : Own Unknown
+own-unknown h = let z : _≡_ {A = ℕ} 0 1 = cc in omega arith
+
+own-dropped : (reason : ℕ) → reason < unmeasured → Own (Dropped reason)
+own-dropped reason small h = let same : reason ≡ unmeasured = cc in omega arith
+
+own-cond : (t : Bool) (a b : BlockRead) → Own a → Own b → Own (cond t a b)
+own-cond true a b p q = p
+own-cond false a b p q = q
+
+own-unless : (t : Bool) (a b : BlockRead) → Own a → Own b → Own (unless t a b)
+own-unless true a b p q = q
+own-unless false a b p q = p
+
+own-sized : (words : ℕ) (body : List ℕ) (answer : BlockRead) → Own answer → Own (sized words body answer)
+own-sized words body answer own = own-unless (eqb (length body) (4 * words)) (Dropped badSize) answer (own-dropped badSize (omega arith)) own
+
+fault-small : (flag burst gap : ℕ) → summaryFault flag burst gap < unmeasured
+unfolding summaryFault
+fault-small flag burst gap = go (flagGood flag) (rateGood burst && rateGood gap)
+  where
+    go : (f r : Bool) → unless f badFlag (unless r badRate 0) < unmeasured
+    go false r = omega arith
+    go true false = omega arith
+    go true true = omega arith
+
+own-summary : (specific : ℕ) (body : List ℕ) (b : Block) → Own (summary specific body (Typed b))
+own-summary specific body b =
+    let fault : ℕ = summaryFault (flagIn specific) (be16 body 4) (be16 body 6) in
+    own-unless (eqb fault 0) (Dropped fault) (Typed b) (own-dropped fault (fault-small (flagIn specific) (be16 body 4) (be16 body 6))) (own-typed b)
+
+pub never-unmeasured : Never-unmeasured
+unfolding readBlock readMeasurement readLoss readDiscard readEffective readStreams
+never-unmeasured type specific body =
+    own-cond (eqb type measurementType) _ _ (own-sized measurementWords body _ (own-typed _))
+    (own-cond (eqb type lossType) _ _ (own-sized lossWords body _ (own-summary specific body _))
+    (own-cond (eqb type discardType) _ _ (own-sized discardWords body _ (own-summary specific body _))
+    (own-cond (eqb type effectiveType) _ _ (own-sized effectiveWords body _ (own-typed _))
+    (own-cond (eqb type streamsType) _ _ (own-sized streamsWords body _ (own-typed _)) own-unknown))))

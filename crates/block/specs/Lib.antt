@@ -1,0 +1,4 @@
+pub mod Types
+pub mod Layouts
+pub mod Reading
+pub mod Laws

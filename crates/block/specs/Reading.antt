@@ -1,0 +1,81 @@
+-- One block read by itself: document 01, "The packet". "Reading one block by itself takes its type,
+-- type-specific byte and body. It answers in the same three kinds, D1 for a listed type whose body has
+-- another size, and never gives D4." Reasons, the first that applies: D1, D2, D3.
+use Prim.Native.Nat.{ℕ, _*_}
+use mathlib.Core.Bool.{Bool, cond, _&&_, _||_}
+use mathlib.Core.List.{List}
+use lib.Dec.{eqb, leb}
+use lib.ListN.{length}
+use Rattle.refusal.specs.Answer.{unless}
+use Rattle.wire.specs.BigEndian.{be16}
+use Rattle.block.specs.declared.Block.{Block}
+use Rattle.block.specs.declared.Block.the-variants.{Measured, Loss, Discard, Effective, Streams}
+use Rattle.block.specs.declared.BlockRead.{BlockRead}
+use Rattle.block.specs.declared.BlockRead.the-variants.{Typed, Unknown, Dropped}
+use Rattle.block.specs.declared.Needs.{Needs}
+use Rattle.block.specs.declared.Needs.the-variants.{Nothing, MeasurementOf}
+use Rattle.block.specs.Types.{measurementType, lossType, discardType, effectiveType, streamsType, measurementWords, lossWords, discardWords, effectiveWords, streamsWords, badSize, badFlag, badRate}
+use Rattle.block.specs.Layouts.{measurementIn, flagIn, lossIn, discardIn, effectiveIn, streamsIn}
+
+-- "Rates are 0 to 32,768, or 65,535 for unavailable."
+abbrev pub rateMax : ℕ
+rateMax = 32768
+
+abbrev pub unavailable : ℕ
+unavailable = 65535
+
+unfoldable pub rateGood : ℕ → Bool
+rateGood r = leb r rateMax || eqb r unavailable
+
+-- "1, 2 or 3 good, 0 reserved"
+unfoldable pub flagGood : ℕ → Bool
+flagGood flag = leb 1 flag && leb flag 3
+
+-- the reason to drop a 17 or 18 with this flag and these rates: D2, then D3; 0 where there is none
+unfoldable pub summaryFault : ℕ → ℕ → ℕ → ℕ
+summaryFault flag burst gap =
+    unless (flagGood flag) badFlag
+    (unless (rateGood burst && rateGood gap) badRate
+    0)
+
+-- D1
+abbrev pub sized : ℕ → List ℕ → BlockRead → BlockRead
+sized words body answer = unless (eqb (length body) (4 * words)) (Dropped badSize) answer
+
+-- D2 and D3 of a 17 or an 18, whose rates stand at the same place
+abbrev pub summary : ℕ → List ℕ → BlockRead → BlockRead
+summary specific body answer =
+    let fault : ℕ = summaryFault (flagIn specific) (be16 body 4) (be16 body 6) in
+    unless (eqb fault 0) (Dropped fault) answer
+
+unfoldable pub readMeasurement : List ℕ → BlockRead
+readMeasurement body = sized measurementWords body (Typed (Measured (measurementIn body)))
+
+unfoldable pub readLoss : ℕ → List ℕ → BlockRead
+readLoss specific body = sized lossWords body (summary specific body (Typed (Loss (lossIn specific body))))
+
+unfoldable pub readDiscard : ℕ → List ℕ → BlockRead
+readDiscard specific body = sized discardWords body (summary specific body (Typed (Discard (discardIn specific body))))
+
+unfoldable pub readEffective : List ℕ → BlockRead
+readEffective body = sized effectiveWords body (Typed (Effective (effectiveIn body)))
+
+unfoldable pub readStreams : List ℕ → BlockRead
+readStreams body = sized streamsWords body (Typed (Streams (streamsIn body)))
+
+unfoldable pub readBlock : ℕ → ℕ → List ℕ → BlockRead
+readBlock type specific body =
+    cond (eqb type measurementType) (readMeasurement body)
+    (cond (eqb type lossType) (readLoss specific body)
+    (cond (eqb type discardType) (readDiscard specific body)
+    (cond (eqb type effectiveType) (readEffective body)
+    (cond (eqb type streamsType) (readStreams body)
+    Unknown))))
+
+-- what a typed block needs in its packet: a 17 or 18 needs a block 14 for its source (D4)
+abbrev pub needsOf : Block → Needs
+needsOf (Measured m) = Nothing
+needsOf (Loss l) = MeasurementOf (l .source)
+needsOf (Discard d) = MeasurementOf (d .source)
+needsOf (Effective e) = Nothing
+needsOf (Streams t) = Nothing

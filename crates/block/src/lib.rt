@@ -1,0 +1,322 @@
+// The five typed blocks, and one block read by itself: document 01, "The packet". A reader takes the body of
+// a block, the words after its first, of any size, and answers typed, unknown, or dropped with its reason.
+use std::num::wrapping_sub_u16;
+ghost use mathlib.Core.Path.{_≡_};
+ghost use Rattle.block.specs.Layouts.{covered};
+ghost use Rattle.block.specs.Reading.{rateGood, flagGood, summaryFault, readMeasurement, readLoss, readDiscard, readEffective, readStreams, readBlock, needsOf};
+
+pub const MEASUREMENT: u8 = 14;
+
+pub const LOSS: u8 = 17;
+
+pub const DISCARD: u8 = 18;
+
+pub const EFFECTIVE: u8 = 240;
+
+pub const STREAMS: u8 = 241;
+
+pub const MEASUREMENT_BYTES: usize = 28;
+
+pub const LOSS_BYTES: usize = 12;
+
+pub const DISCARD_BYTES: usize = 8;
+
+pub const EFFECTIVE_BYTES: usize = 8;
+
+pub const STREAMS_BYTES: usize = 44;
+
+// The reasons to drop a block, D1 to D4.
+pub const BAD_SIZE: u8 = 1;
+
+pub const BAD_FLAG: u8 = 2;
+
+pub const BAD_RATE: u8 = 3;
+
+pub const UNMEASURED: u8 = 4;
+
+const RATE_MAX: u16 = 32_768;
+
+const UNAVAILABLE: u16 = 65_535;
+
+// Type 14, Measurement Information: RFC 6776, section 4.
+//
+//   0                   1                   2                   3
+//   0 1 2 3 4 5 6 7 8 9 0 1 2 3 4 5 6 7 8 9 0 1 2 3 4 5 6 7 8 9 0 1
+//  +-+-+-+-+-+-+-+-+-+-+-+-+-+-+-+-+-+-+-+-+-+-+-+-+-+-+-+-+-+-+-+-+
+//  |     BT=14     |    Reserved   |      block length = 7         |
+//  +-+-+-+-+-+-+-+-+-+-+-+-+-+-+-+-+-+-+-+-+-+-+-+-+-+-+-+-+-+-+-+-+
+//  |                    SSRC of stream source                      |
+//  +-+-+-+-+-+-+-+-+-+-+-+-+-+-+-+-+-+-+-+-+-+-+-+-+-+-+-+-+-+-+-+-+
+//  |            Reserved           |    first sequence number      |
+//  +-+-+-+-+-+-+-+-+-+-+-+-+-+-+-+-+-+-+-+-+-+-+-+-+-+-+-+-+-+-+-+-+
+//  |           extended first sequence number of interval          |
+//  +-+-+-+-+-+-+-+-+-+-+-+-+-+-+-+-+-+-+-+-+-+-+-+-+-+-+-+-+-+-+-+-+
+//  |                 extended last sequence number                 |
+//  +-+-+-+-+-+-+-+-+-+-+-+-+-+-+-+-+-+-+-+-+-+-+-+-+-+-+-+-+-+-+-+-+
+//  |              Measurement Duration (Interval)                  |
+//  +-+-+-+-+-+-+-+-+-+-+-+-+-+-+-+-+-+-+-+-+-+-+-+-+-+-+-+-+-+-+-+-+
+//  |     Measurement Duration (Cumulative) - Seconds (bit 0-31)    |
+//  +-+-+-+-+-+-+-+-+-+-+-+-+-+-+-+-+-+-+-+-+-+-+-+-+-+-+-+-+-+-+-+-+
+//  |     Measurement Duration (Cumulative) - Fraction (bit 0-31)   |
+//  +-+-+-+-+-+-+-+-+-+-+-+-+-+-+-+-+-+-+-+-+-+-+-+-+-+-+-+-+-+-+-+-+
+pub struct Measurement {
+    pub source: u32,
+    pub first: u16,
+    pub extended_first: u32,
+    pub extended_last: u32,
+    pub interval: u32,
+    pub seconds: u32,
+    pub fraction: u32,
+}
+
+// Type 17, Burst/Gap Loss Summary Statistics: RFC 7004, section 3.1. I is the interval flag.
+//
+//   0                   1                   2                   3
+//   0 1 2 3 4 5 6 7 8 9 0 1 2 3 4 5 6 7 8 9 0 1 2 3 4 5 6 7 8 9 0 1
+//  +-+-+-+-+-+-+-+-+-+-+-+-+-+-+-+-+-+-+-+-+-+-+-+-+-+-+-+-+-+-+-+-+
+//  |     BT=17     | I |  Reserved |      block length = 3         |
+//  +-+-+-+-+-+-+-+-+-+-+-+-+-+-+-+-+-+-+-+-+-+-+-+-+-+-+-+-+-+-+-+-+
+//  |                        SSRC of Source                         |
+//  +-+-+-+-+-+-+-+-+-+-+-+-+-+-+-+-+-+-+-+-+-+-+-+-+-+-+-+-+-+-+-+-+
+//  |        Burst Loss Rate        |         Gap Loss Rate         |
+//  +-+-+-+-+-+-+-+-+-+-+-+-+-+-+-+-+-+-+-+-+-+-+-+-+-+-+-+-+-+-+-+-+
+//  |      Burst Duration Mean      |    Burst Duration Variance    |
+//  +-+-+-+-+-+-+-+-+-+-+-+-+-+-+-+-+-+-+-+-+-+-+-+-+-+-+-+-+-+-+-+-+
+pub struct LossSummary {
+    pub flag: u8,
+    pub source: u32,
+    pub burst_rate: u16,
+    pub gap_rate: u16,
+    pub burst_mean: u16,
+    pub burst_variance: u16,
+}
+
+// Type 18, Burst/Gap Discard Summary Statistics: RFC 7004, section 3.2.
+//
+//  +-+-+-+-+-+-+-+-+-+-+-+-+-+-+-+-+-+-+-+-+-+-+-+-+-+-+-+-+-+-+-+-+
+//  |     BT=18     | I |  Reserved |      block length = 2         |
+//  +-+-+-+-+-+-+-+-+-+-+-+-+-+-+-+-+-+-+-+-+-+-+-+-+-+-+-+-+-+-+-+-+
+//  |                        SSRC of Source                         |
+//  +-+-+-+-+-+-+-+-+-+-+-+-+-+-+-+-+-+-+-+-+-+-+-+-+-+-+-+-+-+-+-+-+
+//  |       Burst Discard Rate      |        Gap Discard Rate       |
+//  +-+-+-+-+-+-+-+-+-+-+-+-+-+-+-+-+-+-+-+-+-+-+-+-+-+-+-+-+-+-+-+-+
+pub struct DiscardSummary {
+    pub flag: u8,
+    pub source: u32,
+    pub burst_rate: u16,
+    pub gap_rate: u16,
+}
+
+// Type 240, effective loss: document 002, whose number is ours and whose length is RFC 3611's.
+//
+//  +-+-+-+-+-+-+-+-+-+-+-+-+-+-+-+-+-+-+-+-+-+-+-+-+-+-+-+-+-+-+-+-+
+//  |     BT=240    |    Reserved   |      block length = 2         |
+//  +-+-+-+-+-+-+-+-+-+-+-+-+-+-+-+-+-+-+-+-+-+-+-+-+-+-+-+-+-+-+-+-+
+//  |                        SSRC of Source                         |
+//  +-+-+-+-+-+-+-+-+-+-+-+-+-+-+-+-+-+-+-+-+-+-+-+-+-+-+-+-+-+-+-+-+
+//  |     Effective Loss Index      |            Reserved           |
+//  +-+-+-+-+-+-+-+-+-+-+-+-+-+-+-+-+-+-+-+-+-+-+-+-+-+-+-+-+-+-+-+-+
+pub struct EffectiveLoss {
+    pub source: u32,
+    pub index: u16,
+}
+
+// Type 241, TR 101 290 decodability: document 004, section 3, whose number is ours. Every word from the
+// third on is one of the fields after end, in their order.
+//
+//  +-+-+-+-+-+-+-+-+-+-+-+-+-+-+-+-+-+-+-+-+-+-+-+-+-+-+-+-+-+-+-+-+
+//  |     BT=241    |    Reserved   |      block length = 11        |
+//  +-+-+-+-+-+-+-+-+-+-+-+-+-+-+-+-+-+-+-+-+-+-+-+-+-+-+-+-+-+-+-+-+
+//  |                        SSRC of source                         |
+//  +-+-+-+-+-+-+-+-+-+-+-+-+-+-+-+-+-+-+-+-+-+-+-+-+-+-+-+-+-+-+-+-+
+//  |          begin_seq            |             end_seq           |
+//  +-+-+-+-+-+-+-+-+-+-+-+-+-+-+-+-+-+-+-+-+-+-+-+-+-+-+-+-+-+-+-+-+
+//  |             Number of TSs, then eight counts of 32 bits       |
+//  +-+-+-+-+-+-+-+-+-+-+-+-+-+-+-+-+-+-+-+-+-+-+-+-+-+-+-+-+-+-+-+-+
+pub struct StreamCounts {
+    pub source: u32,
+    pub begin: u16,
+    pub end: u16,
+    pub streams: u32,
+    pub sync_losses: u32,
+    pub sync_byte_errors: u32,
+    pub continuity_errors: u32,
+    pub transport_errors: u32,
+    pub pcr_errors: u32,
+    pub pcr_repetition_errors: u32,
+    pub pcr_discontinuity_errors: u32,
+    pub pts_errors: u32,
+}
+
+pub enum Block {
+    Measured(Measurement),
+    Loss(LossSummary),
+    Discard(DiscardSummary),
+    Effective(EffectiveLoss),
+    Streams(StreamCounts),
+}
+
+// What reading a block answers; a dropped block has its reason.
+pub enum BlockRead {
+    Typed(Block),
+    Unknown,
+    Dropped(u8),
+}
+
+// What a typed block needs in its packet: nothing, or a measurement block for this source.
+pub enum Needs {
+    Nothing,
+    MeasurementOf(u32),
+}
+
+// One block by itself, from its type, type-specific byte and body.
+pub fn read(kind: u8, specific: u8, body: &[u8]) -> BlockRead
+    ensures { λ r. ⌜ r ≡ readBlock kind specific (now (body .entry)) ⌝ }
+{
+    match kind {
+        14 => read_measurement(body),
+        17 => read_loss(specific, body),
+        18 => read_discard(specific, body),
+        240 => read_effective(body),
+        241 => read_streams(body),
+        _ => BlockRead::Unknown,
+    }
+}
+
+pub fn read_measurement(body: &[u8]) -> BlockRead
+    ensures { λ r. ⌜ r ≡ readMeasurement (now (body .entry)) ⌝ }
+{
+    if body.len() != MEASUREMENT_BYTES {
+        return BlockRead::Dropped(BAD_SIZE);
+    }
+    BlockRead::Typed(Block::Measured(Measurement {
+        source: wire::u32_at(body, 0),
+        first: wire::u16_at(body, 6),
+        extended_first: wire::u32_at(body, 8),
+        extended_last: wire::u32_at(body, 12),
+        interval: wire::u32_at(body, 16),
+        seconds: wire::u32_at(body, 20),
+        fraction: wire::u32_at(body, 24),
+    }))
+}
+
+pub fn read_loss(specific: u8, body: &[u8]) -> BlockRead
+    ensures { λ r. ⌜ r ≡ readLoss specific (now (body .entry)) ⌝ }
+{
+    if body.len() != LOSS_BYTES {
+        return BlockRead::Dropped(BAD_SIZE);
+    }
+    let flag = specific / 64;
+    let burst_rate = wire::u16_at(body, 4);
+    let gap_rate = wire::u16_at(body, 6);
+    let fault = summary_fault(flag, burst_rate, gap_rate);
+    if fault != 0 {
+        return BlockRead::Dropped(fault);
+    }
+    BlockRead::Typed(Block::Loss(LossSummary {
+        flag,
+        source: wire::u32_at(body, 0),
+        burst_rate,
+        gap_rate,
+        burst_mean: wire::u16_at(body, 8),
+        burst_variance: wire::u16_at(body, 10),
+    }))
+}
+
+pub fn read_discard(specific: u8, body: &[u8]) -> BlockRead
+    ensures { λ r. ⌜ r ≡ readDiscard specific (now (body .entry)) ⌝ }
+{
+    if body.len() != DISCARD_BYTES {
+        return BlockRead::Dropped(BAD_SIZE);
+    }
+    let flag = specific / 64;
+    let burst_rate = wire::u16_at(body, 4);
+    let gap_rate = wire::u16_at(body, 6);
+    let fault = summary_fault(flag, burst_rate, gap_rate);
+    if fault != 0 {
+        return BlockRead::Dropped(fault);
+    }
+    BlockRead::Typed(Block::Discard(DiscardSummary {
+        flag,
+        source: wire::u32_at(body, 0),
+        burst_rate,
+        gap_rate,
+    }))
+}
+
+pub fn read_effective(body: &[u8]) -> BlockRead
+    ensures { λ r. ⌜ r ≡ readEffective (now (body .entry)) ⌝ }
+{
+    if body.len() != EFFECTIVE_BYTES {
+        return BlockRead::Dropped(BAD_SIZE);
+    }
+    BlockRead::Typed(Block::Effective(EffectiveLoss {
+        source: wire::u32_at(body, 0),
+        index: wire::u16_at(body, 4),
+    }))
+}
+
+pub fn read_streams(body: &[u8]) -> BlockRead
+    ensures { λ r. ⌜ r ≡ readStreams (now (body .entry)) ⌝ }
+{
+    if body.len() != STREAMS_BYTES {
+        return BlockRead::Dropped(BAD_SIZE);
+    }
+    BlockRead::Typed(Block::Streams(StreamCounts {
+        source: wire::u32_at(body, 0),
+        begin: wire::u16_at(body, 4),
+        end: wire::u16_at(body, 6),
+        streams: wire::u32_at(body, 8),
+        sync_losses: wire::u32_at(body, 12),
+        sync_byte_errors: wire::u32_at(body, 16),
+        continuity_errors: wire::u32_at(body, 20),
+        transport_errors: wire::u32_at(body, 24),
+        pcr_errors: wire::u32_at(body, 28),
+        pcr_repetition_errors: wire::u32_at(body, 32),
+        pcr_discontinuity_errors: wire::u32_at(body, 36),
+        pts_errors: wire::u32_at(body, 40),
+    }))
+}
+
+// Why a summary with this interval flag and these rates is dropped: D2, D3, or 0 where it is good.
+pub fn summary_fault(flag: u8, burst_rate: u16, gap_rate: u16) -> u8
+    ensures { λ r. ⌜ r ≡ summaryFault flag «burst_rate» «gap_rate» ⌝ }
+{
+    if !flag_good(flag) {
+        return BAD_FLAG;
+    }
+    if !(rate_good(burst_rate) & rate_good(gap_rate)) {
+        return BAD_RATE;
+    }
+    0
+}
+
+fn flag_good(flag: u8) -> bool
+    ensures { λ t. ⌜ t ≡ flagGood flag ⌝ }
+{
+    (1 <= flag) & (flag <= 3)
+}
+
+fn rate_good(r: u16) -> bool
+    ensures { λ t. ⌜ t ≡ rateGood r ⌝ }
+{
+    (r <= RATE_MAX) | (r == UNAVAILABLE)
+}
+
+// What a typed block needs in its packet.
+pub fn needed_by(b: Block) -> Needs
+    ensures { λ n. ⌜ n ≡ needsOf b ⌝ }
+{
+    match b {
+        Block::Loss(l) => Needs::MeasurementOf(l.source),
+        Block::Discard(d) => Needs::MeasurementOf(d.source),
+        _ => Needs::Nothing,
+    }
+}
+
+// The packets that a block 241 covers, over the wrap of 16-bit sequence numbers.
+pub fn packets_covered(begin: u16, end: u16) -> u16
+    ensures { λ n. ⌜ n ≡ covered begin end ⌝ }
+{
+    wrapping_sub_u16(end, begin)
+}
