@@ -1,0 +1,4 @@
+pub mod FirstBytes
+pub mod Stepping
+pub mod Walking
+pub mod Reserved

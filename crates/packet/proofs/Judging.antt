@@ -1,0 +1,74 @@
+-- A block judged among the blocks of its packet: a case for each way through the code, and the two laws about
+-- D4. Assumes nothing.
+use Prim.Native.Nat.{ℕ}
+use mathlib.Core.Path.{_≡_, refl, sym, _∙_}
+use mathlib.Core.Bool.{Bool, true, false}
+use mathlib.Core.Logic.{_⊎_, inl, inr}
+use mathlib.Core.List.{List}
+use native.Mathlib.Omega.{arith}
+use Rattle.refusal.specs.Answer.{unless}
+use Rattle.block.specs.Types.{unmeasured}
+use Rattle.block.specs.Reading.{readBlock, needsOf}
+use Rattle.block.proofs.Reasons.{never-unmeasured}
+use Rattle.block.specs.declared.Block.{Block}
+use Rattle.block.specs.declared.BlockRead.{BlockRead}
+use Rattle.block.specs.declared.BlockRead.the-variants.{Typed, Unknown, Dropped}
+use Rattle.block.specs.declared.Needs.{Needs}
+use Rattle.block.specs.declared.Needs.the-variants.{Nothing, MeasurementOf}
+use Rattle.frame.specs.Frames.{Entry}
+use Rattle.packet.specs.Blocks.{measured, given, judged, readIn}
+use Rattle.packet.specs.Laws.{Own-but-unmeasured, Unmeasured, Unmeasured-exactly}
+
+-- the cases of `judged`
+module _ (es : List Entry) (own : BlockRead) where
+  pub has-measurement : (b : Block) (source : ℕ) → own ≡ Typed b → needsOf b ≡ MeasurementOf source → measured source es ≡ true → Typed b ≡ judged es own
+  has-measurement b source o n m = rw (o, n, m)
+
+  pub lacks-measurement : (b : Block) (source : ℕ) → own ≡ Typed b → needsOf b ≡ MeasurementOf source → measured source es ≡ false → Dropped unmeasured ≡ judged es own
+  lacks-measurement b source o n m = rw (o, n, m)
+
+  pub needs-nothing : (b : Block) → own ≡ Typed b → needsOf b ≡ Nothing → Typed b ≡ judged es own
+  needs-nothing b o n = rw (o, n)
+
+-- In a packet a block reads as by itself, but for D4.
+by-needs : (es : List Entry) (own : BlockRead) → (judged es own ≡ own) ⊎ (judged es own ≡ Dropped unmeasured)
+by-needs es Unknown = inl refl
+by-needs es (Dropped reason) = inl refl
+by-needs es (Typed b) = go (needsOf b)
+  where
+    either : (m : Bool) → (unless m (Dropped unmeasured) (Typed b) ≡ Typed b) ⊎ (unless m (Dropped unmeasured) (Typed b) ≡ Dropped unmeasured)
+    either true = inl refl
+    either false = inr refl
+
+    go : (needs : Needs) → (given es needs (Typed b) ≡ Typed b) ⊎ (given es needs (Typed b) ≡ Dropped unmeasured)
+    go Nothing = inl refl
+    go (MeasurementOf source) = either (measured source es)
+
+pub own-but-unmeasured : Own-but-unmeasured
+unfolding readIn
+own-but-unmeasured es e = by-needs es (readBlock (e .kind) (e .specific) (e .body))
+
+-- D4 exactly where a typed block needs a measurement of its source that stands nowhere in the packet.
+unmeasured-only : (es : List Entry) (e : Entry) → readIn es e ≡ Dropped unmeasured → Unmeasured es e
+unfolding readIn
+unmeasured-only es e dropped = go (readBlock (e .kind) (e .specific) (e .body)) refl dropped
+  where
+    by-place : (b : Block) (source : ℕ) (m : Bool) → readBlock (e .kind) (e .specific) (e .body) ≡ Typed b → needsOf b ≡ MeasurementOf source → measured source es ≡ m →
+        unless m (Dropped unmeasured) (Typed b) ≡ Dropped unmeasured → Unmeasured es e
+    by-place b source true t n m h = let z : _≡_ {A = ℕ} 0 1 = cc in absurd (omega arith)
+    by-place b source false t n m h = record { block = b; source = source; typed = t; needs = n; nowhere = m }
+
+    by-need : (b : Block) (needs : Needs) → readBlock (e .kind) (e .specific) (e .body) ≡ Typed b → needsOf b ≡ needs →
+        given es needs (Typed b) ≡ Dropped unmeasured → Unmeasured es e
+    by-need b Nothing t n h = let z : _≡_ {A = ℕ} 0 1 = cc in absurd (omega arith)
+    by-need b (MeasurementOf source) t n h = by-place b source (measured source es) t n refl h
+
+    go : (own : BlockRead) → readBlock (e .kind) (e .specific) (e .body) ≡ own → judged es own ≡ Dropped unmeasured → Unmeasured es e
+    go (Typed b) t h = by-need b (needsOf b) t refl h
+    go Unknown t h = let z : _≡_ {A = ℕ} 0 1 = cc in absurd (omega arith)
+    go (Dropped reason) t h = absurd (never-unmeasured (e .kind) (e .specific) (e .body) (t ∙ h))
+
+pub unmeasured-exactly : Unmeasured-exactly
+unfolding readIn
+unmeasured-exactly es e =
+    (unmeasured-only es e, λ u. sym (lacks-measurement es (readBlock (e .kind) (e .specific) (e .body)) (u .block) (u .source) (u .typed) (u .needs) (u .nowhere)))

@@ -1,0 +1,5 @@
+pub mod Opening
+pub mod Numbered
+pub mod Measuring
+pub mod Chosen
+pub mod Judging

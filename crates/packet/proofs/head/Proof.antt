@@ -1,0 +1,26 @@
+-- `packet::head` meets its contract: what an opened packet has. Assumes nothing.
+use mathlib.Core.Path.{sym, _∙_}
+use Rattle.packet.proofs.Opening.{opened, opened-bad}
+use borrow.Author.Needs.{needs}
+use Rattle.packet.proofs.head.Statement.{statement}
+use Rattle.packet.proofs.head.Tie as tie
+
+open-requires : tie.Need-open-requires
+open-requires c κs = search needs
+
+enum-known-sender : tie.Need-enum-known-sender
+enum-known-sender c = search needs
+
+enum-known-r : tie.Need-enum-known-r
+enum-known-r c = search needs
+
+returns : tie.Need-returns
+returns c =
+    let o = opened _ 0 _ _ _ (sym (c .before .before .before .open .ensures) ∙ c .before .sender .given .1) in
+    rw (o .packet, ← o .counted)
+
+returns-2 : tie.Need-returns-2
+returns-2 c = rw (opened-bad _ 0 _ (sym (c .before .before .before .open .ensures) ∙ c .before .r .given .1))
+
+pub head-spec : {M : Type 1} → statement M
+head-spec = tie.close (tie.spec open-requires enum-known-sender enum-known-r returns returns-2)

@@ -1,0 +1,48 @@
+-- `packet::measures_at` meets its contract: each return is one of the cases of Measuring.antt. Assumes nothing.
+use Prim.Native.Nat.{ℕ}
+use mathlib.Core.Path.{sym, ap, _∙_}
+use native.Mathlib.Omega.{arith}
+use lib.Dec.{eqb}
+use Rattle.packet.proofs.Measuring.{other-kind, other-size, same-size}
+use borrow.Author.Needs.{needs}
+use Rattle.packet.proofs.measures_at.Statement.{statement}
+use Rattle.packet.proofs.measures_at.Tie as tie
+
+shared-slice-read-if1 : tie.Need-shared-slice-read-if1
+shared-slice-read-if1 c = search needs
+
+returns : tie.Need-returns
+returns c = other-kind _ _ _ (c .before .before .before .pre) (c .if1 .taken)
+
+add-u16-at : tie.Need-add-u16-at
+add-u16-at c = search needs
+
+u16-at-requires : tie.Need-u16-at-requires
+u16-at-requires c κs = search needs
+
+returns-2 : tie.Need-returns-2
+returns-2 c = other-size _ _ _ (c .before .before .before .before .before .pre) (c .before .before .if1 .left) (λ e. c .if2 .taken (c .before .u16-at .ensures ∙ e))
+
+add-u32-at : tie.Need-add-u32-at
+add-u32-at c = search needs
+
+u32-at-requires : tie.Need-u32-at-requires
+u32-at-requires c κs = search needs
+
+returns-3 : tie.Need-returns-3
+returns-3 c =
+    ap (λ (n : ℕ). eqb n (c .before .before .before .before .before .before .args .source)) (c .u32-at .ensures)
+    ∙ same-size _ _ _ (c .before .before .before .before .before .before .pre) (c .before .before .before .if1 .left) (sym (c .before .before .u16-at .ensures) ∙ c .before .if2 .left)
+
+pub measures-at-spec : {M : Type 1} → statement M
+measures-at-spec =
+    tie.close
+    (tie.spec
+    shared-slice-read-if1
+    returns
+    add-u16-at
+    u16-at-requires
+    returns-2
+    add-u32-at
+    u32-at-requires
+    returns-3)

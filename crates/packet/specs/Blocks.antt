@@ -1,0 +1,40 @@
+-- The blocks of a packet read together: document 01, "The packet". A block is read as by itself, but for D4:
+-- "a 17 or 18 with no well-sized block 14 for the same source anywhere in the packet, before or after".
+use Prim.Native.Nat.{ℕ, _*_}
+use mathlib.Core.Bool.{Bool, false, _&&_, _||_}
+use mathlib.Core.List.{List, [], _∷_}
+use lib.Dec.{eqb}
+use lib.ListN.{length}
+use Rattle.refusal.specs.Answer.{unless}
+use Rattle.wire.specs.BigEndian.{be32}
+use Rattle.block.specs.Types.{measurementType, measurementWords, unmeasured}
+use Rattle.block.specs.Reading.{readBlock, needsOf}
+use Rattle.block.specs.declared.BlockRead.{BlockRead}
+use Rattle.block.specs.declared.BlockRead.the-variants.{Typed, Unknown, Dropped}
+use Rattle.block.specs.declared.Needs.{Needs}
+use Rattle.block.specs.declared.Needs.the-variants.{Nothing, MeasurementOf}
+use Rattle.frame.specs.Frames.{Entry}
+
+-- a well-sized block 14 for this source
+unfoldable pub measures : ℕ → Entry → Bool
+measures source e =
+    eqb (e .kind) measurementType && (eqb (length (e .body)) (4 * measurementWords) && eqb (be32 (e .body) 0) source)
+
+-- one of them stands anywhere in the list
+unfoldable pub measured : ℕ → List Entry → Bool
+measured source [] = false
+measured source (e ∷ es) = measures source e || measured source es
+
+-- D4, the last reason to drop a block
+abbrev pub given : List Entry → Needs → BlockRead → BlockRead
+given es Nothing answer = answer
+given es (MeasurementOf source) answer = unless (measured source es) (Dropped unmeasured) answer
+
+abbrev pub judged : List Entry → BlockRead → BlockRead
+judged es (Typed b) = given es (needsOf b) (Typed b)
+judged es Unknown = Unknown
+judged es (Dropped reason) = Dropped reason
+
+-- a block of the packet whose blocks are es
+unfoldable pub readIn : List Entry → Entry → BlockRead
+readIn es e = judged es (readBlock (e .kind) (e .specific) (e .body))

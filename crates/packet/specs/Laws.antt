@@ -1,0 +1,28 @@
+-- What callers may lean on, as statements about the definitions that the calls promise. Proved in proofs/.
+use Prim.Native.Nat.{ℕ}
+use mathlib.Core.Path.{_≡_}
+use mathlib.Core.Bool.{false}
+use mathlib.Core.Logic.{_⊎_}
+use mathlib.Core.List.{List}
+use Rattle.block.specs.Types.{unmeasured}
+use Rattle.block.specs.Reading.{readBlock, needsOf}
+use Rattle.block.specs.declared.Block.{Block}
+use Rattle.block.specs.declared.BlockRead.the-variants.{Typed, Dropped}
+use Rattle.block.specs.declared.Needs.the-variants.{MeasurementOf}
+use Rattle.frame.specs.Frames.{Entry}
+use Rattle.packet.specs.Blocks.{measured, readIn}
+
+-- In a packet a block reads as by itself, but for D4.
+abbrev pub Own-but-unmeasured : Type 0
+Own-but-unmeasured = (es : List Entry) (e : Entry) → (readIn es e ≡ readBlock (e .kind) (e .specific) (e .body)) ⊎ (readIn es e ≡ Dropped unmeasured)
+
+-- D4 exactly where a typed block needs a measurement of its source that stands nowhere in the packet.
+pub record Unmeasured (es : List Entry) (e : Entry) : Type 0 where
+  pub block : Block
+  pub source : ℕ
+  pub typed : readBlock (e .kind) (e .specific) (e .body) ≡ Typed block
+  pub needs : needsOf block ≡ MeasurementOf source
+  pub nowhere : measured source es ≡ false
+
+abbrev pub Unmeasured-exactly : Type 0
+Unmeasured-exactly = (es : List Entry) (e : Entry) → (readIn es e ≡ Dropped unmeasured → Unmeasured es e) × (Unmeasured es e → readIn es e ≡ Dropped unmeasured)

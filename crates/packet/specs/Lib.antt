@@ -1,0 +1,4 @@
+pub mod Blocks
+pub mod Answers
+pub mod Steps
+pub mod Laws
