@@ -60,7 +60,7 @@ typedef struct nuvaskoe_settings {
 /* The answer of a call that fills a lent buffer from its front. */
 typedef struct nuvaskoe_written {
     nuvaskoe_refusal refusal;
-    size_t size; /* how many bytes at the front are the result; 0 where refused */
+    size_t size; /* how many bytes or entries at the front are the result; 0 where refused */
 } nuvaskoe_written;
 
 /* The answer of reading a card. */
@@ -82,6 +82,76 @@ nuvaskoe_card nuvaskoe_card_read(const uint8_t *card, size_t card_len);
  * Refusals, in this order: 15, 8.
  */
 nuvaskoe_written nuvaskoe_card_write(nuvaskoe_settings settings, uint8_t *out, size_t out_len);
+
+/*
+ * Report packets: one RTCP XR packet (RFC 3611) as a buffer of bytes. A call that takes a
+ * packet judges all of it first; its refusals, in this order: 1, 2, 3, 4, 5, 6 (placed at
+ * the block that runs past the end), then what its own line names.
+ */
+
+/* What a packet says of itself. */
+typedef struct nuvaskoe_packet {
+    nuvaskoe_refusal refusal;
+    uint32_t sender; /* 0 where refused */
+    size_t blocks;   /* how many blocks it has; 0 where refused */
+} nuvaskoe_packet;
+
+/* What reading a block comes to: its verdict. */
+enum {
+    NUVASKOE_TYPED = 0,      /* one of the five kinds; fields hold it */
+    NUVASKOE_BAD_SIZE = 1,   /* dropped, D1: a listed type with another length */
+    NUVASKOE_BAD_FLAG = 2,   /* dropped, D2: interval flag 0 */
+    NUVASKOE_BAD_RATE = 3,   /* dropped, D3: a rate from 32,769 to 65,534 */
+    NUVASKOE_UNMEASURED = 4, /* dropped, D4: no measurement block for its source in the packet */
+    NUVASKOE_UNKNOWN = 255   /* a type that is not listed: its body is all there is */
+};
+
+/*
+ * One block. Where the verdict is NUVASKOE_TYPED, fields holds by type, the rest 0:
+ *    14  source, first sequence number, extended first, extended last, interval duration,
+ *        cumulative seconds, cumulative fraction
+ *    17  interval flag, source, burst rate, gap rate, burst mean, burst variance
+ *    18  interval flag, source, burst rate, gap rate
+ *   240  source, effective loss index
+ *   241  source, begin, end, packets covered, streams, eight counts in the draft's order
+ * Rates are 0 to 32,768 or 65,535 for unavailable; mean and variance 0 to 65,533, 65,534
+ * for over range, 65,535 for unavailable; an index of 65,535 is full loss.
+ */
+#define NUVASKOE_FIELDS 13
+typedef struct nuvaskoe_block {
+    nuvaskoe_refusal refusal;
+    uint32_t type;    /* the block's type; 0 where refused */
+    uint32_t verdict; /* 0 where refused */
+    uint32_t fields[NUVASKOE_FIELDS];
+} nuvaskoe_block;
+
+/* Where a part of a packet lies. */
+typedef struct nuvaskoe_part {
+    size_t offset;
+    size_t length;
+} nuvaskoe_part;
+
+/* The sender and the number of blocks. */
+nuvaskoe_packet nuvaskoe_packet_read(const uint8_t *packet, size_t packet_len);
+
+/* Block number `index`, from 0. Further refusal: 7, no block with that index. */
+nuvaskoe_block nuvaskoe_packet_block(const uint8_t *packet, size_t packet_len, size_t index);
+
+/*
+ * Where the body of block number `index` lies in the packet: the words after the block's
+ * first. Offset 0 and length 0 where nuvaskoe_packet_block refuses.
+ */
+nuvaskoe_part nuvaskoe_packet_body(const uint8_t *packet, size_t packet_len, size_t index);
+
+/*
+ * All blocks in one pass: for each block two entries of out, its offset in the packet and
+ * its verdict; the entries after them keep what they held. Further refusal: 8, fewer than
+ * two entries for each block.
+ */
+nuvaskoe_written nuvaskoe_packet_list(const uint8_t *packet, size_t packet_len, uint32_t *out, size_t out_len);
+
+/* One block by itself, from its type, type-specific byte and body: never refused, never 4. */
+nuvaskoe_block nuvaskoe_block_read(uint8_t type, uint8_t specific, const uint8_t *body, size_t body_len);
 
 #ifdef __cplusplus
 }
