@@ -3,5 +3,7 @@
 //! words to speed: where the two disagree, one of them misreads the document.
 #![forbid(unsafe_code)]
 
+pub mod block;
 pub mod card;
+pub mod packet;
 pub mod refusal;

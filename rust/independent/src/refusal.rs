@@ -8,6 +8,18 @@ pub struct Refusal {
 }
 
 impl Refusal {
+    /// packet under 8 bytes
+    pub const PACKET_SHORT: Refusal = Refusal::without_place(1);
+    /// version not 2
+    pub const VERSION: Refusal = Refusal::without_place(2);
+    /// byte 1 not 207
+    pub const PACKET_TYPE: Refusal = Refusal::without_place(3);
+    /// 4 × (length + 1) is not the slice's length
+    pub const PACKET_LENGTH: Refusal = Refusal::without_place(4);
+    /// padding bit set
+    pub const PADDING: Refusal = Refusal::without_place(5);
+    /// no block with that index
+    pub const NO_SUCH_BLOCK: Refusal = Refusal::without_place(7);
     /// buffer shorter than the result needs
     pub const BUFFER_SHORT: Refusal = Refusal::without_place(8);
     /// card not 20 digits
@@ -18,6 +30,14 @@ impl Refusal {
     pub const CARD_FIELD: Refusal = Refusal::without_place(13);
     /// a setting outside its range, or a tally not sound
     pub const SETTING: Refusal = Refusal::without_place(15);
+
+    /// a block runs past the end; its place is the block's offset
+    pub const fn block_past_end(offset: usize) -> Refusal {
+        Refusal {
+            number: 6,
+            place: offset,
+        }
+    }
 
     const fn without_place(number: u32) -> Refusal {
         Refusal { number, place: 0 }

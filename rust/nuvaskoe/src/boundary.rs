@@ -30,9 +30,59 @@ pub(crate) struct Card {
     pub(crate) settings: Settings,
 }
 
+#[repr(C)]
+pub(crate) struct Packet {
+    pub(crate) refusal: Refusal,
+    pub(crate) sender: u32,
+    pub(crate) blocks: usize,
+}
+
+pub(crate) const TYPED: u32 = 0;
+pub(crate) const BAD_SIZE: u32 = 1;
+pub(crate) const BAD_FLAG: u32 = 2;
+pub(crate) const BAD_RATE: u32 = 3;
+pub(crate) const UNMEASURED: u32 = 4;
+pub(crate) const UNKNOWN: u32 = 255;
+
+pub(crate) const FIELDS: usize = 13;
+
+#[repr(C)]
+pub(crate) struct Block {
+    pub(crate) refusal: Refusal,
+    /// `type` in C.
+    pub(crate) block_type: u32,
+    pub(crate) verdict: u32,
+    pub(crate) fields: [u32; FIELDS],
+}
+
+#[repr(C)]
+pub(crate) struct Part {
+    pub(crate) offset: usize,
+    pub(crate) length: usize,
+}
+
 extern "C" {
     pub(crate) fn nuvaskoe_card_read(card: *const u8, card_len: usize) -> Card;
     pub(crate) fn nuvaskoe_card_write(settings: Settings, out: *mut u8, out_len: usize) -> Written;
+    pub(crate) fn nuvaskoe_packet_read(packet: *const u8, packet_len: usize) -> Packet;
+    pub(crate) fn nuvaskoe_packet_block(
+        packet: *const u8,
+        packet_len: usize,
+        index: usize,
+    ) -> Block;
+    pub(crate) fn nuvaskoe_packet_body(packet: *const u8, packet_len: usize, index: usize) -> Part;
+    pub(crate) fn nuvaskoe_packet_list(
+        packet: *const u8,
+        packet_len: usize,
+        out: *mut u32,
+        out_len: usize,
+    ) -> Written;
+    pub(crate) fn nuvaskoe_block_read(
+        block_type: u8,
+        specific: u8,
+        body: *const u8,
+        body_len: usize,
+    ) -> Block;
 }
 
 // The layout that C gives these structs where size_t is 4 or 8 bytes wide.
@@ -47,4 +97,15 @@ const _: () = {
     assert!(offset_of!(Written, refusal) == 0 && offset_of!(Written, size) == 2 * WORD);
     assert!(size_of::<Card>() == 2 * WORD + 16 && align_of::<Card>() == WORD);
     assert!(offset_of!(Card, refusal) == 0 && offset_of!(Card, settings) == 2 * WORD);
+    assert!(size_of::<Packet>() == 4 * WORD && align_of::<Packet>() == WORD);
+    assert!(offset_of!(Packet, refusal) == 0 && offset_of!(Packet, sender) == 2 * WORD);
+    assert!(offset_of!(Packet, blocks) == 3 * WORD);
+    // 15 numbers of 4 bytes, filled up to whole words.
+    assert!(size_of::<Block>() == (2 * WORD + 60).next_multiple_of(WORD));
+    assert!(align_of::<Block>() == WORD && offset_of!(Block, refusal) == 0);
+    assert!(offset_of!(Block, block_type) == 2 * WORD);
+    assert!(offset_of!(Block, verdict) == 2 * WORD + 4);
+    assert!(offset_of!(Block, fields) == 2 * WORD + 8);
+    assert!(size_of::<Part>() == 2 * WORD && align_of::<Part>() == WORD);
+    assert!(offset_of!(Part, offset) == 0 && offset_of!(Part, length) == WORD);
 };

@@ -7,12 +7,19 @@
 //! let settings = nuvaskoe::card::read(b"01600100000100040096").unwrap();
 //! assert_eq!(settings.gmin, 16);
 //! assert_eq!(nuvaskoe::card::read(b"0160").unwrap_err().number, 11);
+//!
+//! let packet = b"\x80\xCF\0\x04\0\0\0\x01\xF0\0\0\x02\0\0\0\x02\x92\x48\0\0";
+//! assert_eq!(nuvaskoe::packet::read(packet).unwrap().blocks, 1);
+//! assert_eq!(nuvaskoe::packet::block(packet, 0).unwrap().block_type, 240);
+//! assert_eq!(nuvaskoe::packet::body(packet, 0), &packet[12..]);
 //! ```
 #![deny(unsafe_op_in_unsafe_fn)]
 #![deny(missing_docs)]
 
+pub mod block;
 mod boundary;
 pub mod card;
+pub mod packet;
 
 use std::{error, fmt};
 

@@ -2,6 +2,9 @@
 //! the environment may set.
 #![allow(dead_code)] // Each test file is its own crate and uses its own part.
 
+pub mod compare;
+pub mod packets;
+
 use std::{env, fmt, ops::RangeInclusive, str::FromStr};
 
 const DEFAULT_SEED: u64 = 3611;
@@ -56,6 +59,11 @@ impl Random {
 
     pub fn byte(&mut self) -> u8 {
         self.draw() as u8
+    }
+
+    /// One of `choices`.
+    pub fn one_of<T: Copy>(&mut self, choices: &[T]) -> T {
+        choices[self.below(choices.len())]
     }
 
     pub fn bytes(&mut self, length: usize) -> Vec<u8> {

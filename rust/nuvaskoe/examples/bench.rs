@@ -1,0 +1,171 @@
+//! Times the library's packet calls beside the independent ones, on the same packets and
+//! in one run:
+//!
+//! ```text
+//! cargo run --release --offline --example bench
+//! ```
+//!
+//! Each figure is the least of several rounds, in nanoseconds a call. `read` asks for the
+//! sender and the number of blocks, `all` for every block's offset and verdict, `last`
+//! for the last block by its index.
+
+#[path = "../tests/support/mod.rs"]
+mod support;
+
+use std::{
+    hint::black_box,
+    time::{Duration, Instant},
+};
+use support::{
+    compare::compare,
+    packets::{all_kinds, block, listed, packet, P12},
+};
+
+const ROUNDS: usize = 15;
+/// A round repeats its call until it takes at least this long.
+const ROUND: Duration = Duration::from_millis(4);
+
+struct Case {
+    name: &'static str,
+    packet: Vec<u8>,
+}
+
+fn cases() -> Vec<Case> {
+    let case = |name, packet| Case { name, packet };
+    vec![
+        case("P12", P12.to_vec()),
+        case("all five kinds, one unknown", all_kinds()),
+        case("empty unknown blocks", empty_blocks(65_536)),
+        case("empty unknown blocks", empty_blocks(131_072)),
+        case("17s, their 14 last", measured_last(65_536)),
+        case("17s, their 14 last", measured_last(131_072)),
+        case("18s of all sources, four 14s", many_sources(65_536, 4)),
+        case("18s of all sources, four 14s", many_sources(131_072, 4)),
+        case("18s of all sources, many 14s", many_sources(65_536, 1_000)),
+        case("18s of all sources, many 14s", many_sources(131_072, 2_000)),
+    ]
+}
+
+/// A packet of `length` bytes: empty unknown blocks where `blocks` leave room, then those.
+fn filled(length: usize, blocks: Vec<Vec<u8>>) -> Vec<u8> {
+    let used: usize = blocks.iter().map(Vec::len).sum();
+    let mut all = vec![block(1, 0, &[]); (length - 8 - used) / 4];
+    all.extend(blocks);
+    let packet = packet(1, &all);
+    assert_eq!(packet.len(), length);
+    packet
+}
+
+fn empty_blocks(length: usize) -> Vec<u8> {
+    filled(length, Vec::new())
+}
+
+fn measured_last(length: usize) -> Vec<u8> {
+    let measurement = listed(14, 5);
+    let mut blocks = vec![listed(17, 5); (length - 8 - measurement.len()) / 16];
+    blocks.push(measurement);
+    filled(length, blocks)
+}
+
+/// Blocks 18 of different sources, the last `measured` of which have a block 14 each, amid
+/// the packet. The odd factor keeps the sources different and puts them out of order.
+fn many_sources(length: usize, measured: usize) -> Vec<u8> {
+    let source = |number: usize| (number as u32).wrapping_mul(0x9E37_79B1);
+    let count = (length - 8 - 32 * measured) / 12;
+    let mut blocks: Vec<_> = (0..count)
+        .map(|number| listed(18, source(number)))
+        .collect();
+    let rest = blocks.split_off(count / 2);
+    blocks.extend((count - measured..count).map(|number| listed(14, source(number))));
+    blocks.extend(rest);
+    filled(length, blocks)
+}
+
+/// Both give the same answers; how many blocks there are.
+fn check(packet: &[u8]) -> usize {
+    let (_, count) = compare(packet).expect("a good packet");
+    let mut ours = vec![0; 2 * count];
+    assert_eq!(nuvaskoe::packet::list(packet, &mut ours), Ok(2 * count));
+    let mut independent = Vec::new();
+    walk(packet, &mut independent);
+    let ours: Vec<_> = ours.chunks(2).map(|entry| (entry[0], entry[1])).collect();
+    assert_eq!(ours, independent);
+    count
+}
+
+/// The independent list, into a buffer that is used again.
+fn walk(packet: &[u8], out: &mut Vec<(u32, u32)>) {
+    out.clear();
+    independent::packet::walk(packet, |frame, reading| {
+        out.push((frame.offset as u32, reading.verdict()));
+    })
+    .expect("a good packet");
+}
+
+/// Times two calls in turns: the least time of each, in nanoseconds.
+fn race<A, B>(mut ours: impl FnMut() -> A, mut theirs: impl FnMut() -> B) -> (f64, f64) {
+    let (our_repeats, their_repeats) = (repeats(&mut ours), repeats(&mut theirs));
+    let mut least = (f64::INFINITY, f64::INFINITY);
+    for _ in 0..ROUNDS {
+        least.0 = least.0.min(nanoseconds(&mut ours, our_repeats));
+        least.1 = least.1.min(nanoseconds(&mut theirs, their_repeats));
+    }
+    least
+}
+
+fn repeats<T>(call: &mut impl FnMut() -> T) -> u32 {
+    let mut repeats = 1;
+    while nanoseconds(call, repeats) * f64::from(repeats) < ROUND.as_nanos() as f64 {
+        repeats *= 2;
+    }
+    repeats
+}
+
+fn nanoseconds<T>(call: &mut impl FnMut() -> T, repeats: u32) -> f64 {
+    let start = Instant::now();
+    for _ in 0..repeats {
+        black_box(call());
+    }
+    start.elapsed().as_nanos() as f64 / f64::from(repeats)
+}
+
+fn print(case: &Case, call: &str, (ours, independent): (f64, f64)) {
+    println!(
+        "{:<29} {:>7} {call:<4} {ours:>12.1} {independent:>12.1} {:>7.2}",
+        case.name,
+        case.packet.len(),
+        ours / independent
+    );
+}
+
+fn time(case: &Case) {
+    let packet = &case.packet[..];
+    let count = check(packet);
+    let read = race(
+        || nuvaskoe::packet::read(black_box(packet)),
+        || independent::packet::read(black_box(packet)),
+    );
+    print(case, "read", read);
+    let (mut our_list, mut their_list) = (vec![0; 2 * count], Vec::with_capacity(count));
+    let all = race(
+        || nuvaskoe::packet::list(black_box(packet), black_box(&mut our_list)),
+        || walk(black_box(packet), black_box(&mut their_list)),
+    );
+    print(case, "all", all);
+    let last = count - 1;
+    let last = race(
+        || nuvaskoe::packet::block(black_box(packet), black_box(last)),
+        || independent::packet::block(black_box(packet), black_box(last)),
+    );
+    print(case, "last", last);
+}
+
+fn main() {
+    println!(
+        "{:<29} {:>7} {:<4} {:>12} {:>12} {:>7}",
+        "packet", "bytes", "call", "ours ns", "indep. ns", "ratio"
+    );
+    for case in &cases() {
+        time(case);
+    }
+}

@@ -1,0 +1,71 @@
+//! Report packets: one RTCP XR packet (RFC 3611) as a slice of bytes.
+//!
+//! Every call judges the whole packet first. Refusals, in this order: 1, 2, 3, 4, 5, 6
+//! (placed at the block that runs past the end), then what the call itself names.
+
+// The debug assertions here are what the header says of refused answers and no answer in
+// Rust shows.
+
+use crate::{block::Reading, boundary, Refusal};
+
+/// What a packet says of itself.
+#[derive(Debug, Clone, Copy, PartialEq, Eq)]
+pub struct Summary {
+    /// The sender.
+    pub sender: u32,
+    /// How many blocks it has.
+    pub blocks: usize,
+}
+
+/// The sender and the number of blocks.
+pub fn read(packet: &[u8]) -> Result<Summary, Refusal> {
+    // SAFETY: a slice's pointer is never null and is good for reading its length.
+    let answer = unsafe { boundary::nuvaskoe_packet_read(packet.as_ptr(), packet.len()) };
+    debug_assert!(answer.refusal.number == 0 || (answer.sender, answer.blocks) == (0, 0));
+    answer.refusal.unless_refused(Summary {
+        sender: answer.sender,
+        blocks: answer.blocks,
+    })
+}
+
+/// Block number `index`, from 0.
+///
+/// Further refusal: 7, no block with that index.
+pub fn block(packet: &[u8], index: usize) -> Result<Reading, Refusal> {
+    // SAFETY: a slice's pointer is never null and is good for reading its length.
+    let answer = unsafe { boundary::nuvaskoe_packet_block(packet.as_ptr(), packet.len(), index) };
+    match answer.refusal.unless_refused(()) {
+        Ok(()) => Ok(Reading::new(&answer)),
+        Err(refusal) => {
+            debug_assert_eq!((answer.block_type, answer.verdict), (0, 0));
+            debug_assert_eq!(answer.fields, [0; boundary::FIELDS]);
+            Err(refusal)
+        }
+    }
+}
+
+/// The body of block number `index`, as the part of `packet` it lies in: the words after
+/// the block's first. Empty where [`block`] refuses.
+pub fn body(packet: &[u8], index: usize) -> &[u8] {
+    // SAFETY: a slice's pointer is never null and is good for reading its length.
+    let part = unsafe { boundary::nuvaskoe_packet_body(packet.as_ptr(), packet.len(), index) };
+    packet
+        .get(part.offset..)
+        .and_then(|rest| rest.get(..part.length))
+        .expect("a body lies in its packet")
+}
+
+/// All blocks in one pass: for each block two entries of `out`, its offset in the packet
+/// and [its verdict's number](crate::block::Verdict::number). Answers how many entries
+/// were written; those after them keep what they held.
+///
+/// Further refusal: 8, fewer than two entries for each block.
+pub fn list(packet: &[u8], out: &mut [u32]) -> Result<usize, Refusal> {
+    // SAFETY: a slice's pointer is never null and is good for reading its length, and
+    // `out` lends all its length for writing.
+    let answer = unsafe {
+        boundary::nuvaskoe_packet_list(packet.as_ptr(), packet.len(), out.as_mut_ptr(), out.len())
+    };
+    debug_assert!(answer.refusal.number == 0 || answer.size == 0);
+    answer.refusal.unless_refused(answer.size)
+}
