@@ -1,19 +1,20 @@
 -- The cases that the readers share, over the size and the answer of any kind: D1 or the answer, and for a 17 or
--- an 18 the reason that its flag and its rates give. Assumes nothing.
-use Prim.Native.Nat.{ℕ, _*_, _≤_}
-use mathlib.Core.Path.{_≡_}
+-- an 18 the reason to drop it or the answer. Assumes nothing.
+use Prim.Native.Nat.{ℕ, _*_}
+use mathlib.Core.Path.{_≡_, refl}
 use mathlib.Core.Bool.{Bool, true, false, not, _&&_}
 use mathlib.Core.List.{List}
 use native.Mathlib.Omega.{arith}
-use borrow.Author.Tests.{eq-eqb, ne-eqb, not-true, not-false}
+use borrow.Author.Tests.{eq-eqb, ne-eqb, eqb-true, not-true, not-false}
+use lib.Dec.{eqb}
 use lib.ListN.{length}
-use Rattle.wire.specs.BigEndian.{be16, u16At}
-use Rattle.wire.proofs.Numbers.{u16-inside}
+use Rattle.refusal.specs.Answer.{unless}
+use Rattle.wire.specs.BigEndian.{u16At}
 use Rattle.block.specs.declared.BlockRead.{BlockRead}
 use Rattle.block.specs.declared.BlockRead.the-variants.{Dropped}
 use Rattle.block.specs.Types.{badSize, badFlag, badRate}
 use Rattle.block.specs.Layouts.{flagIn}
-use Rattle.block.specs.Reading.{flagGood, rateGood, summaryFault, sized, summary}
+use Rattle.block.specs.Reading.{flagGood, rateGood, summaryFault, sized, summaryReason, reasoned}
 
 module _ (words : ℕ) (body : List ℕ) (answer : BlockRead) where
   pub wrong-size : (length body ≡ 4 * words → ⊥) → Dropped badSize ≡ sized words body answer
@@ -22,18 +23,22 @@ module _ (words : ℕ) (body : List ℕ) (answer : BlockRead) where
   pub right-size : length body ≡ 4 * words → (found : BlockRead) → found ≡ answer → found ≡ sized words body answer
   right-size h found e = rw (eq-eqb (length body) (4 * words) h) e
 
--- a body of its size that has rates, read as `burst` and `gap`, and the reason that the code finds
-module _ (words specific : ℕ) (body : List ℕ) (answer : BlockRead) (burst gap fault : ℕ)
-    (size : length body ≡ 4 * words) (room : 2 ≤ words) (burst-is : burst ≡ u16At body 4) (gap-is : gap ≡ u16At body 6)
-    (fault-is : fault ≡ summaryFault (flagIn specific) burst gap) where
-  same-fault : fault ≡ summaryFault (flagIn specific) (be16 body 4) (be16 body 6)
-  same-fault = rw (fault-is, burst-is, gap-is, u16-inside body 4 (omega arith), u16-inside body 6 (omega arith))
+-- a reason to drop the block, or none, as the code finds it
+module _ (reason wanted : ℕ) (answer : BlockRead) (is : reason ≡ wanted) where
+  pub faulty : (reason ≡ 0 → ⊥) → Dropped reason ≡ reasoned wanted answer
+  faulty h = rw (← is, ne-eqb reason 0 h)
 
-  pub faulty : (fault ≡ 0 → ⊥) → Dropped fault ≡ sized words body (summary specific body answer)
-  faulty h = rw (eq-eqb (length body) (4 * words) size, ← same-fault, ne-eqb fault 0 h)
+  pub faultless : reason ≡ 0 → (found : BlockRead) → found ≡ answer → found ≡ reasoned wanted answer
+  faultless h found e = rw (← is, eq-eqb reason 0 h) e
 
-  pub faultless : fault ≡ 0 → (found : BlockRead) → found ≡ answer → found ≡ sized words body (summary specific body answer)
-  faultless h found e = rw (eq-eqb (length body) (4 * words) size, ← same-fault, eq-eqb fault 0 h) e
+-- a 17 or 18 that is not dropped has its size
+pub reason-size : (size specific : ℕ) (body : List ℕ) → summaryReason size specific body ≡ 0 → length body ≡ size
+unfolding summaryReason
+reason-size size specific body h = go (eqb (length body) size) refl h
+  where
+    go : (t : Bool) → eqb (length body) size ≡ t → unless t badSize (summaryFault (flagIn specific) (u16At body 4) (u16At body 6)) ≡ 0 → length body ≡ size
+    go true e z = eqb-true (length body) size e
+    go false e z = absurd (omega arith)
 
 -- the three answers of `summaryFault`, from the tests as the code holds them
 pub bad-flag : (flag burst gap : ℕ) (f : Bool) → f ≡ flagGood flag → not f ≡ true → badFlag ≡ summaryFault flag burst gap

@@ -1,7 +1,7 @@
 -- The cases of each kind's reader: another size, a reason, and the typed block from its fields as the code reads
 -- them, which lie inside a body of its size. Assumes nothing.
 use Prim.Native.Nat.{ℕ, _+_, _*_, _≤_}
-use mathlib.Core.Path.{_≡_, _∙_}
+use mathlib.Core.Path.{_≡_, sym, _∙_}
 use mathlib.Core.List.{List}
 use native.Mathlib.Omega.{arith}
 use lib.ListN.{length}
@@ -16,8 +16,8 @@ use Rattle.block.specs.declared.Block.the-variants.{Measured, Loss, Disc
 use Rattle.block.specs.declared.BlockRead.the-variants.{Typed, Dropped}
 use Rattle.block.specs.Types.{measurementWords, lossWords, discardWords, effectiveWords, streamsWords, badSize}
 use Rattle.block.specs.Layouts.{measurementIn, flagIn, lossIn, discardIn, effectiveIn, streamsIn}
-use Rattle.block.specs.Reading.{summaryFault, summary, readMeasurement, readLoss, readDiscard, readEffective, readStreams}
-use Rattle.block.proofs.Cases.{wrong-size, right-size, faulty, faultless}
+use Rattle.block.specs.Reading.{summaryReason, readMeasurement, readLoss, readDiscard, readEffective, readStreams}
+use Rattle.block.proofs.Cases.{wrong-size, right-size, faultless, reason-size}
 
 -- a number that the code reads is the one that stands there
 half : (body : List ℕ) (i n : ℕ) → i + 2 ≤ length body → n ≡ u16At body i → n ≡ be16 body i
@@ -54,17 +54,7 @@ measurement-typed body m size source first from to interval seconds fraction =
     })))
 
 -- 17
-pub loss-size : (specific : ℕ) (body : List ℕ) → (length body ≡ 4 * lossWords → ⊥) → Dropped badSize ≡ readLoss specific body
-unfolding readLoss
-loss-size specific body h = wrong-size lossWords body (summary specific body (Typed (Loss (lossIn specific body)))) h
-
-pub loss-faulty : (specific : ℕ) (body : List ℕ) (burst gap fault : ℕ) → length body ≡ 4 * lossWords →
-    burst ≡ u16At body 4 → gap ≡ u16At body 6 → fault ≡ summaryFault (flagIn specific) burst gap → (fault ≡ 0 → ⊥) → Dropped fault ≡ readLoss specific body
-unfolding readLoss
-loss-faulty specific body burst gap fault size b g f h = faulty lossWords specific body (Typed (Loss (lossIn specific body))) burst gap fault size (omega arith) b g f h
-
-pub loss-typed : (specific : ℕ) (body : List ℕ) (fault : ℕ) (l : LossSummary) → length body ≡ 4 * lossWords →
-    fault ≡ summaryFault (flagIn specific) (l .«burst_rate») (l .«gap_rate») → fault ≡ 0 →
+pub loss-typed : (specific : ℕ) (body : List ℕ) (reason : ℕ) (l : LossSummary) → reason ≡ summaryReason (4 * lossWords) specific body → reason ≡ 0 →
     l .flag ≡ flagIn specific →
     l .source ≡ u32At body 0 →
     l .«burst_rate» ≡ u16At body 4 →
@@ -73,8 +63,9 @@ pub loss-typed : (specific : ℕ) (body : List ℕ) (fault : ℕ) (l : LossSumma
     l .«burst_variance» ≡ u16At body 10 →
     Typed (Loss l) ≡ readLoss specific body
 unfolding readLoss lossIn
-loss-typed specific body fault l size f h flag source burst gap mean variance =
-    faultless lossWords specific body (Typed (Loss (lossIn specific body))) _ _ fault size (omega arith) burst gap f h _
+loss-typed specific body reason l r h flag source burst gap mean variance =
+    let size = reason-size (4 * lossWords) specific body (sym r ∙ h) in
+    faultless reason _ _ r h _
     (λ i. Typed (Loss (record {
       flag = flag i;
       source = word body 0 _ (omega arith) source i;
@@ -85,25 +76,16 @@ loss-typed specific body fault l size f h flag source burst gap mean variance =
     })))
 
 -- 18
-pub discard-size : (specific : ℕ) (body : List ℕ) → (length body ≡ 4 * discardWords → ⊥) → Dropped badSize ≡ readDiscard specific body
-unfolding readDiscard
-discard-size specific body h = wrong-size discardWords body (summary specific body (Typed (Discard (discardIn specific body)))) h
-
-pub discard-faulty : (specific : ℕ) (body : List ℕ) (burst gap fault : ℕ) → length body ≡ 4 * discardWords →
-    burst ≡ u16At body 4 → gap ≡ u16At body 6 → fault ≡ summaryFault (flagIn specific) burst gap → (fault ≡ 0 → ⊥) → Dropped fault ≡ readDiscard specific body
-unfolding readDiscard
-discard-faulty specific body burst gap fault size b g f h = faulty discardWords specific body (Typed (Discard (discardIn specific body))) burst gap fault size (omega arith) b g f h
-
-pub discard-typed : (specific : ℕ) (body : List ℕ) (fault : ℕ) (d : DiscardSummary) → length body ≡ 4 * discardWords →
-    fault ≡ summaryFault (flagIn specific) (d .«burst_rate») (d .«gap_rate») → fault ≡ 0 →
+pub discard-typed : (specific : ℕ) (body : List ℕ) (reason : ℕ) (d : DiscardSummary) → reason ≡ summaryReason (4 * discardWords) specific body → reason ≡ 0 →
     d .flag ≡ flagIn specific →
     d .source ≡ u32At body 0 →
     d .«burst_rate» ≡ u16At body 4 →
     d .«gap_rate» ≡ u16At body 6 →
     Typed (Discard d) ≡ readDiscard specific body
 unfolding readDiscard discardIn
-discard-typed specific body fault d size f h flag source burst gap =
-    faultless discardWords specific body (Typed (Discard (discardIn specific body))) _ _ fault size (omega arith) burst gap f h _
+discard-typed specific body reason d r h flag source burst gap =
+    let size = reason-size (4 * discardWords) specific body (sym r ∙ h) in
+    faultless reason _ _ r h _
     (λ i. Typed (Discard (record {
       flag = flag i;
       source = word body 0 _ (omega arith) source i;

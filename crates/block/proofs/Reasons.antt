@@ -8,13 +8,13 @@ use native.Mathlib.Omega.{arith}
 use lib.Dec.{eqb}
 use lib.ListN.{length}
 use Rattle.refusal.specs.Answer.{unless}
-use Rattle.wire.specs.BigEndian.{be16}
+use Rattle.wire.specs.BigEndian.{u16At}
 use Rattle.block.specs.declared.Block.{Block}
 use Rattle.block.specs.declared.BlockRead.{BlockRead}
 use Rattle.block.specs.declared.BlockRead.the-variants.{Typed, Unknown, Dropped}
 use Rattle.block.specs.Types.{measurementType, lossType, discardType, effectiveType, streamsType, measurementWords, lossWords, discardWords, effectiveWords, streamsWords, badSize, badFlag, badRate, unmeasured}
 use Rattle.block.specs.Layouts.{flagIn}
-use Rattle.block.specs.Reading.{flagGood, rateGood, summaryFault, sized, summary, readMeasurement, readLoss, readDiscard, readEffective, readStreams, readBlock}
+use Rattle.block.specs.Reading.{flagGood, rateGood, summaryFault, sized, summaryReason, reasoned, readMeasurement, readLoss, readDiscard, readEffective, readStreams, readBlock}
 use Rattle.block.specs.Laws.{Never-unmeasured}
 
 -- an answer that is not D4
@@ -50,16 +50,24 @@ fault-small flag burst gap = go (flagGood flag) (rateGood burst && rateGood gap)
     go true false = omega arith
     go true true = omega arith
 
-own-summary : (specific : ℕ) (body : List ℕ) (b : Block) → Own (summary specific body (Typed b))
-own-summary specific body b =
-    let fault : ℕ = summaryFault (flagIn specific) (be16 body 4) (be16 body 6) in
-    own-unless (eqb fault 0) (Dropped fault) (Typed b) (own-dropped fault (fault-small (flagIn specific) (be16 body 4) (be16 body 6))) (own-typed b)
+reason-small : (size specific : ℕ) (body : List ℕ) → summaryReason size specific body < unmeasured
+unfolding summaryReason
+reason-small size specific body = go (eqb (length body) size)
+  where
+    go : (t : Bool) → unless t badSize (summaryFault (flagIn specific) (u16At body 4) (u16At body 6)) < unmeasured
+    go true = fault-small (flagIn specific) (u16At body 4) (u16At body 6)
+    go false = omega arith
+
+own-summary : (size specific : ℕ) (body : List ℕ) (b : Block) → Own (reasoned (summaryReason size specific body) (Typed b))
+own-summary size specific body b =
+    let reason : ℕ = summaryReason size specific body in
+    own-unless (eqb reason 0) (Dropped reason) (Typed b) (own-dropped reason (reason-small size specific body)) (own-typed b)
 
 pub never-unmeasured : Never-unmeasured
 unfolding readBlock readMeasurement readLoss readDiscard readEffective readStreams
 never-unmeasured type specific body =
     own-cond (eqb type measurementType) _ _ (own-sized measurementWords body _ (own-typed _))
-    (own-cond (eqb type lossType) _ _ (own-sized lossWords body _ (own-summary specific body _))
-    (own-cond (eqb type discardType) _ _ (own-sized discardWords body _ (own-summary specific body _))
+    (own-cond (eqb type lossType) _ _ (own-summary (4 * lossWords) specific body _)
+    (own-cond (eqb type discardType) _ _ (own-summary (4 * discardWords) specific body _)
     (own-cond (eqb type effectiveType) _ _ (own-sized effectiveWords body _ (own-typed _))
     (own-cond (eqb type streamsType) _ _ (own-sized streamsWords body _ (own-typed _)) own-unknown))))

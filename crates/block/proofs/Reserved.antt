@@ -10,11 +10,11 @@ use Rattle.wire.specs.BigEndian.{be16, be32}
 use Rattle.wire.proofs.Changed.{Outside, be16-set, be32-set}
 use Rattle.block.specs.Types.{lossType, discardType}
 use Rattle.block.specs.Layouts.{measurementIn, lossIn, discardIn, effectiveIn}
-use Rattle.block.specs.Reading.{readMeasurement, readLoss, readDiscard, readEffective, readBlock}
+use Rattle.block.specs.Reading.{summaryReason, readMeasurement, readLoss, readDiscard, readEffective, readBlock}
 use Rattle.block.specs.Laws.{Reserved-specific, Reserved-byte, Reserved-measurement, Reserved-effective}
 
 pub reserved-specific : Reserved-specific
-unfolding readBlock readLoss readDiscard lossIn discardIn
+unfolding readBlock readLoss readDiscard summaryReason lossIn discardIn
 reserved-specific type specific specific′ body same = rw same
 
 pub reserved-byte : Reserved-byte

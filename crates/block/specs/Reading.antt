@@ -7,13 +7,15 @@ use mathlib.Core.List.{List}
 use lib.Dec.{eqb, leb}
 use lib.ListN.{length}
 use Rattle.refusal.specs.Answer.{unless}
-use Rattle.wire.specs.BigEndian.{be16}
+use Rattle.wire.specs.BigEndian.{be32, u16At}
 use Rattle.block.specs.declared.Block.{Block}
 use Rattle.block.specs.declared.Block.the-variants.{Measured, Loss, Discard, Effective, Streams}
 use Rattle.block.specs.declared.BlockRead.{BlockRead}
 use Rattle.block.specs.declared.BlockRead.the-variants.{Typed, Unknown, Dropped}
 use Rattle.block.specs.declared.Needs.{Needs}
 use Rattle.block.specs.declared.Needs.the-variants.{Nothing, MeasurementOf}
+use Rattle.block.specs.declared.Measures.{Measures}
+use Rattle.block.specs.declared.Measures.the-variants.{Source, Nothing as Measures·Nothing}
 use Rattle.block.specs.Types.{measurementType, lossType, discardType, effectiveType, streamsType, measurementWords, lossWords, discardWords, effectiveWords, streamsWords, badSize, badFlag, badRate}
 use Rattle.block.specs.Layouts.{measurementIn, flagIn, lossIn, discardIn, effectiveIn, streamsIn}
 
@@ -42,20 +44,23 @@ summaryFault flag burst gap =
 abbrev pub sized : ℕ → List ℕ → BlockRead → BlockRead
 sized words body answer = unless (eqb (length body) (4 * words)) (Dropped badSize) answer
 
--- D2 and D3 of a 17 or an 18, whose rates stand at the same place
-abbrev pub summary : ℕ → List ℕ → BlockRead → BlockRead
-summary specific body answer =
-    let fault : ℕ = summaryFault (flagIn specific) (be16 body 4) (be16 body 6) in
-    unless (eqb fault 0) (Dropped fault) answer
+-- D1, D2 and D3 of a 17 or an 18 of this size in bytes, whose rates stand at the same place; 0 where there is none
+unfoldable pub summaryReason : ℕ → ℕ → List ℕ → ℕ
+summaryReason size specific body =
+    unless (eqb (length body) size) badSize
+    (summaryFault (flagIn specific) (u16At body 4) (u16At body 6))
+
+abbrev pub reasoned : ℕ → BlockRead → BlockRead
+reasoned reason answer = unless (eqb reason 0) (Dropped reason) answer
 
 unfoldable pub readMeasurement : List ℕ → BlockRead
 readMeasurement body = sized measurementWords body (Typed (Measured (measurementIn body)))
 
 unfoldable pub readLoss : ℕ → List ℕ → BlockRead
-readLoss specific body = sized lossWords body (summary specific body (Typed (Loss (lossIn specific body))))
+readLoss specific body = reasoned (summaryReason (4 * lossWords) specific body) (Typed (Loss (lossIn specific body)))
 
 unfoldable pub readDiscard : ℕ → List ℕ → BlockRead
-readDiscard specific body = sized discardWords body (summary specific body (Typed (Discard (discardIn specific body))))
+readDiscard specific body = reasoned (summaryReason (4 * discardWords) specific body) (Typed (Discard (discardIn specific body)))
 
 unfoldable pub readEffective : List ℕ → BlockRead
 readEffective body = sized effectiveWords body (Typed (Effective (effectiveIn body)))
@@ -79,3 +84,10 @@ needsOf (Loss l) = MeasurementOf (l .source)
 needsOf (Discard d) = MeasurementOf (d .source)
 needsOf (Effective e) = Nothing
 needsOf (Streams t) = Nothing
+
+-- what a block measures: the source of a well-sized 14
+unfoldable pub measuredBy : ℕ → List ℕ → Measures
+measuredBy type body =
+    unless (eqb type measurementType) Measures·Nothing
+    (unless (eqb (length body) (4 * measurementWords)) Measures·Nothing
+    (Source (be32 body 0)))

@@ -1,6 +1,6 @@
 -- The listed block types and their sizes: document 01, "The packet", the table. The drafts print TBD for the
 -- last two; 240 and 241 are ours. Document 002 prints block length 3 for three words, which by RFC 3611 is 2.
-use Prim.Native.Nat.{ℕ, _*_}
+use Prim.Native.Nat.{ℕ}
 
 abbrev pub measurementType : ℕ
 measurementType = 14

@@ -3,7 +3,7 @@
 use std::num::wrapping_sub_u16;
 ghost use mathlib.Core.Path.{_≡_};
 ghost use Rattle.block.specs.Layouts.{covered};
-ghost use Rattle.block.specs.Reading.{rateGood, flagGood, summaryFault, readMeasurement, readLoss, readDiscard, readEffective, readStreams, readBlock, needsOf};
+ghost use Rattle.block.specs.Reading.{rateGood, flagGood, summaryFault, summaryReason, readMeasurement, readLoss, readDiscard, readEffective, readStreams, readBlock, needsOf, measuredBy};
 
 pub const MEASUREMENT: u8 = 14;
 
@@ -169,6 +169,12 @@ pub enum Needs {
     MeasurementOf(u32),
 }
 
+// What a block measures: the source of a well-sized block 14.
+pub enum Measures {
+    Source(u32),
+    Nothing,
+}
+
 // One block by itself, from its type, type-specific byte and body.
 pub fn read(kind: u8, specific: u8, body: &[u8]) -> BlockRead
     ensures { λ r. ⌜ r ≡ readBlock kind specific (now (body .entry)) ⌝ }
@@ -203,21 +209,15 @@ pub fn read_measurement(body: &[u8]) -> BlockRead
 pub fn read_loss(specific: u8, body: &[u8]) -> BlockRead
     ensures { λ r. ⌜ r ≡ readLoss specific (now (body .entry)) ⌝ }
 {
-    if body.len() != LOSS_BYTES {
-        return BlockRead::Dropped(BAD_SIZE);
-    }
-    let flag = specific / 64;
-    let burst_rate = wire::u16_at(body, 4);
-    let gap_rate = wire::u16_at(body, 6);
-    let fault = summary_fault(flag, burst_rate, gap_rate);
-    if fault != 0 {
-        return BlockRead::Dropped(fault);
+    let reason = summary_reason(LOSS_BYTES, specific, body);
+    if reason != 0 {
+        return BlockRead::Dropped(reason);
     }
     BlockRead::Typed(Block::Loss(LossSummary {
-        flag,
+        flag: specific / 64,
         source: wire::u32_at(body, 0),
-        burst_rate,
-        gap_rate,
+        burst_rate: wire::u16_at(body, 4),
+        gap_rate: wire::u16_at(body, 6),
         burst_mean: wire::u16_at(body, 8),
         burst_variance: wire::u16_at(body, 10),
     }))
@@ -226,21 +226,15 @@ pub fn read_loss(specific: u8, body: &[u8]) -> BlockRead
 pub fn read_discard(specific: u8, body: &[u8]) -> BlockRead
     ensures { λ r. ⌜ r ≡ readDiscard specific (now (body .entry)) ⌝ }
 {
-    if body.len() != DISCARD_BYTES {
-        return BlockRead::Dropped(BAD_SIZE);
-    }
-    let flag = specific / 64;
-    let burst_rate = wire::u16_at(body, 4);
-    let gap_rate = wire::u16_at(body, 6);
-    let fault = summary_fault(flag, burst_rate, gap_rate);
-    if fault != 0 {
-        return BlockRead::Dropped(fault);
+    let reason = summary_reason(DISCARD_BYTES, specific, body);
+    if reason != 0 {
+        return BlockRead::Dropped(reason);
     }
     BlockRead::Typed(Block::Discard(DiscardSummary {
-        flag,
+        flag: specific / 64,
         source: wire::u32_at(body, 0),
-        burst_rate,
-        gap_rate,
+        burst_rate: wire::u16_at(body, 4),
+        gap_rate: wire::u16_at(body, 6),
     }))
 }
 
@@ -278,6 +272,16 @@ pub fn read_streams(body: &[u8]) -> BlockRead
     }))
 }
 
+// Why a 17 or 18, whose size in bytes is given, is dropped: D1, D2, D3, or 0 where it is good.
+pub fn summary_reason(size: usize, specific: u8, body: &[u8]) -> u8
+    ensures { λ r. ⌜ r ≡ summaryReason size specific (now (body .entry)) ⌝ }
+{
+    if body.len() != size {
+        return BAD_SIZE;
+    }
+    summary_fault(specific / 64, wire::u16_at(body, 4), wire::u16_at(body, 6))
+}
+
 // Why a summary with this interval flag and these rates is dropped: D2, D3, or 0 where it is good.
 pub fn summary_fault(flag: u8, burst_rate: u16, gap_rate: u16) -> u8
     ensures { λ r. ⌜ r ≡ summaryFault flag «burst_rate» «gap_rate» ⌝ }
@@ -312,6 +316,19 @@ pub fn needed_by(b: Block) -> Needs
         Block::Discard(d) => Needs::MeasurementOf(d.source),
         _ => Needs::Nothing,
     }
+}
+
+// What a block of this type and body measures.
+pub fn measured_by(kind: u8, body: &[u8]) -> Measures
+    ensures { λ r. ⌜ r ≡ measuredBy kind (now (body .entry)) ⌝ }
+{
+    if kind != MEASUREMENT {
+        return Measures::Nothing;
+    }
+    if body.len() != MEASUREMENT_BYTES {
+        return Measures::Nothing;
+    }
+    Measures::Source(wire::u32_at(body, 0))
 }
 
 // The packets that a block 241 covers, over the wrap of 16-bit sequence numbers.

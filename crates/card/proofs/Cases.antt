@@ -1,8 +1,8 @@
 -- The cases of reading a card: what an accepted card has, and that twenty digits with a wrong check are
 -- refused with 12. Assumes nothing.
-use Prim.Native.Nat.{ℕ, _+_, _-_, _*_, _%_, _^_, _<_, _≤_}
-use mathlib.Core.Path.{_≡_, refl, sym, ap, _∙_}
-use mathlib.Core.Bool.{Bool, true, false, _&&_}
+use Prim.Native.Nat.{ℕ, _-_, _%_}
+use mathlib.Core.Path.{_≡_, refl}
+use mathlib.Core.Bool.{Bool, true, false}
 use mathlib.Core.List.{List}
 use native.Mathlib.Omega.{arith}
 use borrow.Author.Tests.{eqb-true, ne-eqb, eq-eqb}
@@ -14,7 +14,6 @@ use Rattle.refusal.proofs.Tests.{and-left, and-right, both}
 use Rattle.settings.specs.declared.Settings.{Settings}
 use Rattle.settings.specs.Ranges.{inRange, within}
 use Rattle.settings.proofs.Bounds.{Between, between, all}
-use Rattle.card.specs.declared.CardRead.{CardRead}
 use Rattle.card.specs.declared.CardRead.the-variants.{Accepted, Refused}
 use Rattle.card.specs.Decimal.{allDigits, decimal}
 use Rattle.card.specs.Card.{checkMin, checkMax, cardLength, field, settingsOn, twentyDigits, checkRight, readCard}

@@ -1,19 +1,16 @@
 -- No accepted card survives a digit's change or an exchange of two unequal digits: `Changed-refused` and
 -- `Exchanged-refused` of specs/Laws.antt. Assumes nothing.
 use Prim.Native.Nat.{ℕ, suc, _+_, _-_, _*_, _%_, _^_, _<_, _≤_}
-use mathlib.Core.Path.{_≡_, refl, sym, ap, _∙_}
-use mathlib.Core.Bool.{Bool, true}
+use mathlib.Core.Path.{_≡_, sym, ap, _∙_}
+use mathlib.Core.Bool.{true}
 use mathlib.Core.List.{List}
 use native.Mathlib.Omega.{arith}
 use native.Mathlib.Nat.{add-mul}
-use native.Mathlib.Decide.{decLe, ℕ-discrete}
-use lib.ListN.{length, getD, set, length-set}
+use native.Mathlib.Decide.{decLe}
+use lib.ListN.{getD, set, length-set}
 use lib.Seq.{getD-set-other}
-use Rattle.refusal.specs.Table.{cardCheck}
-use Rattle.settings.specs.declared.Settings.{Settings}
-use Rattle.card.specs.declared.CardRead.the-variants.{Refused}
-use Rattle.card.specs.Decimal.{isDigit, allDigits, decimal}
-use Rattle.card.specs.Card.{cardLength, readCard}
+use Rattle.card.specs.Decimal.{isDigit, decimal}
+use Rattle.card.specs.Card.{cardLength}
 use Rattle.card.specs.Laws.{exchange, Changed-refused, Exchanged-refused}
 use Rattle.card.proofs.Decimal.{Digit, digit-range, all-at, all-set, decimal-set}
 use Rattle.card.proofs.Check.{cancel, same-weight}

@@ -2,11 +2,10 @@
 -- each other; appending, one more digit, and one digit changed. Assumes nothing.
 use Prim.Native.Nat.{ℕ, zero, suc, _+_, _-_, _*_, _/_, _%_, _^_, _<_, _≤_}
 use mathlib.Core.Path.{_≡_, refl, sym, ap, _∙_}
-use mathlib.Core.Bool.{Bool, true, _&&_, and-assoc}
+use mathlib.Core.Bool.{true, _&&_, and-assoc}
 use mathlib.Core.List.{List, [], _∷_, _++_}
 use native.Mathlib.Omega.{arith}
-use native.Mathlib.Nat.{add-zero, zero-add, add-suc, suc-add, add-assoc, add-mul, mul-assoc, mul-comm, mul-one, pow-zero, pow-suc, pow-succ', add-mul-div-right, div-eq-of-lt, mod-eq-of-lt, div-div-eq-div-mul, mul-add-div-right, mul-add-mod-self-right, mul-pos, mod-one, mod-lt}
-use native.Mathlib.Numerals.{add-one}
+use native.Mathlib.Nat.{zero-add, suc-add, add-mul, mul-assoc, mul-comm, pow-zero, pow-suc, pow-succ', div-div-eq-div-mul, mul-add-div-right, mul-pos}
 use borrow.Author.Tests.{leb-true, le-leb}
 use lib.Arith.{digits-lt, digits-div, mod-mul}
 use lib.Pow.{pow-add}

@@ -3,12 +3,12 @@
 -- Assumes nothing.
 use Prim.Native.Nat.{ℕ, _+_, _-_, _*_, _/_, _%_, _^_, _<_, _≤_}
 use mathlib.Core.Path.{_≡_, refl, sym, ap, _∙_}
-use mathlib.Core.Bool.{Bool, true}
+use mathlib.Core.Bool.{true}
 use mathlib.Core.List.{List, _++_}
 use native.Mathlib.Omega.{arith}
 use native.Mathlib.Nat.{mod-eq-of-lt}
 use lib.ListN.{length, take, drop, length-take, length-drop}
-use lib.Seq.{take-add, take-all}
+use lib.Seq.{take-add}
 use Rattle.settings.specs.declared.Settings.{Settings}
 use Rattle.card.specs.Decimal.{allDigits, decimal, digits}
 use Rattle.card.specs.Card.{field, settingsOn, payload}

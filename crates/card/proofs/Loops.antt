@@ -1,16 +1,14 @@
 -- The two loops over digits, as plain lists and numbers: reading digits from the front and writing them
 -- from the back. For each its invariant, one turn and the end. Assumes nothing.
 use Prim.Native.Nat.{ℕ, suc, _+_, _-_, _*_, _/_, _%_, _^_, _<_, _≤_}
-use mathlib.Core.Path.{_≡_, refl, sym, ap, _∙_}
-use mathlib.Core.Bool.{Bool, true, false, _&&_}
-use mathlib.Core.List.{List, [], _∷_, _++_, append-assoc, append-nil}
+use mathlib.Core.Path.{_≡_, refl, sym}
+use mathlib.Core.Bool.{Bool, true, false}
+use mathlib.Core.List.{List, _++_, append-assoc, append-nil}
 use native.Mathlib.Omega.{arith}
 use native.Mathlib.Nat.{div-div-eq-div-mul, pow-suc, pow-le-pow-right, lt-of-lt-of-le}
 use native.Mathlib.Numerals.{add-one}
 use lib.ListN.{length, take, drop, getD, set, length-take, length-drop, length-append, take-append-drop}
 use lib.Seq.{take-suc, take-all, length-take-le, set-at}
-use Rattle.refusal.specs.Answer.{unless}
-use Rattle.refusal.proofs.Tests.{both}
 use Rattle.card.specs.declared.Parsed.the-variants.{Number, Other}
 use Rattle.card.specs.Decimal.{isDigit, allDigits, decimal, digits}
 use Rattle.card.specs.Steps.{numberIn}

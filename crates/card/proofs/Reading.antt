@@ -1,9 +1,9 @@
 -- The cases of reading a card in the order of the code: each return's answer is what `readCard` says,
 -- from the two numbers that the card's parts are. Assumes nothing.
-use Prim.Native.Nat.{ℕ, _+_, _-_, _*_, _/_, _%_, _^_, _<_, _≤_}
+use Prim.Native.Nat.{ℕ, _+_, _-_, _*_, _%_, _^_, _<_}
 use mathlib.Core.Path.{_≡_, refl, sym, ap, _∙_}
-use mathlib.Core.Bool.{Bool, true, false, _&&_, and-false}
-use mathlib.Core.List.{List, _++_}
+use mathlib.Core.Bool.{Bool, true, false, and-false}
+use mathlib.Core.List.{List}
 use native.Mathlib.Omega.{arith}
 use native.Mathlib.Nat.{le-refl}
 use borrow.Author.Tests.{eq-eqb, ne-eqb, eqb-true, le-leb}
@@ -13,18 +13,16 @@ use lib.Seq.{take-all}
 use Rattle.refusal.specs.Answer.{unless}
 use Rattle.refusal.specs.Table.{cardDigits, cardCheck, cardField}
 use Rattle.refusal.proofs.Tests.{and-left, and-right, both}
-use Rattle.settings.specs.declared.Settings.{Settings}
 use Rattle.settings.specs.Ranges.{inRange, within}
 use Rattle.settings.proofs.Bounds.{between}
 use Rattle.card.specs.declared.CardRead.the-variants.{Accepted, Refused}
-use Rattle.card.specs.declared.Parsed.{Parsed}
 use Rattle.card.specs.declared.Parsed.the-variants.{Number, Other}
 use Rattle.card.specs.Decimal.{allDigits, decimal}
 use Rattle.card.specs.Card.{checkMin, checkMax, cardLength, field, settingsOn, twentyDigits, checkRight, checkOf, readCard}
 use Rattle.card.specs.Steps.{numberIn, settingsIn}
 use Rattle.card.proofs.Decimal.{all-append}
 use Rattle.card.proofs.Check.{check-range, check-right, check-only}
-use Rattle.card.proofs.Fields.{Payload, payload-parts}
+use Rattle.card.proofs.Fields.{payload-parts}
 use Rattle.card.proofs.Cases.{Twenty, is-twenty}
 use Rattle.card.proofs.RoundTrip.{settings-eq, whole-decimal}
 

@@ -1,19 +1,18 @@
 -- Reading and writing cards are inverse to each other: `Read-written` and `Written-read` of specs/Laws.antt.
 -- Assumes nothing.
-use Prim.Native.Nat.{ℕ, _+_, _-_, _*_, _%_, _^_, _<_, _≤_}
-use mathlib.Core.Path.{_≡_, refl, sym, ap, _∙_}
-use mathlib.Core.Bool.{Bool, true}
+use Prim.Native.Nat.{ℕ, _+_, _-_, _*_, _%_, _^_, _<_}
+use mathlib.Core.Path.{_≡_, refl, _∙_}
+use mathlib.Core.Bool.{true}
 use mathlib.Core.List.{List, _++_}
 use native.Mathlib.Omega.{arith}
 use native.Mathlib.Nat.{mod-eq-of-lt}
 use borrow.Author.Tests.{eq-eqb, le-leb}
 use lib.Dec.{eqb, leb}
-use lib.ListN.{length, take, drop, length-append}
+use lib.ListN.{length, take}
 use lib.Seq.{take-add, take-all}
 use Rattle.refusal.proofs.Tests.{both}
 use Rattle.settings.specs.declared.Settings.{Settings}
-use Rattle.settings.specs.Ranges.{inRange, within}
-use Rattle.card.specs.declared.CardRead.the-variants.{Accepted}
+use Rattle.settings.specs.Ranges.{within}
 use Rattle.card.specs.Decimal.{allDigits, decimal, digits}
 use Rattle.card.specs.Card.{checkMin, checkMax, cardLength, field, settingsOn, checkRight, readCard, payload, checkOf, cardOf}
 use Rattle.card.specs.Steps.{Fits}
@@ -21,7 +20,7 @@ use Rattle.card.specs.Laws.{Read-written, Written-read}
 use Rattle.card.proofs.Decimal.{all-append, all-digits, decimal-append, decimal-digits, length-digits}
 use Rattle.card.proofs.Check.{check-range, check-right, check-only}
 use Rattle.card.proofs.Fields.{field-digits, up-to}
-use Rattle.card.proofs.Cases.{Twenty, Good, good, is-twenty, in-range-fits}
+use Rattle.card.proofs.Cases.{Twenty, good, is-twenty, in-range-fits}
 
 pub settings-eq : (a b : Settings) → a .gmin ≡ b .gmin → a .batch ≡ b .batch → a .threshold ≡ b .threshold → a .spacing ≡ b .spacing → a ≡ b
 settings-eq a b g e t s = λ i. record { gmin = g i; batch = e i; threshold = t i; spacing = s i }

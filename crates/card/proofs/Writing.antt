@@ -1,21 +1,20 @@
 -- The cases of writing a card, in the order of the code: the answer, and the buffer afterwards. Assumes
 -- nothing.
-use Prim.Native.Nat.{ℕ, _+_, _-_, _*_, _<_, _≤_}
-use mathlib.Core.Path.{_≡_, refl, sym, ap, _∙_}
+use Prim.Native.Nat.{ℕ, _+_, _-_, _<_, _≤_}
+use mathlib.Core.Path.{_≡_, sym, ap, _∙_}
 use mathlib.Core.Bool.{true, false}
-use mathlib.Core.List.{List, _++_, append-assoc}
-use native.Mathlib.Omega.{arith}
+use mathlib.Core.List.{List, _++_}
 use borrow.Author.Tests.{le-leb, lt-leb}
-use lib.ListN.{length, take, drop, length-append}
+use lib.ListN.{length, take, drop}
 use lib.Seq.{take-at, drop-at, drop-drop}
-use Rattle.refusal.specs.Answer.{unless, after}
+use Rattle.refusal.specs.Answer.{after}
 use Rattle.refusal.specs.Table.{setting, bufferShort}
 use Rattle.refusal.specs.declared.Written.{Written}
 use Rattle.refusal.specs.declared.Written.the-variants.{Size, Refused}
 use Rattle.settings.specs.declared.Settings.{Settings}
 use Rattle.settings.specs.Ranges.{inRange}
-use Rattle.card.specs.Decimal.{decimal, digits}
-use Rattle.card.specs.Card.{cardLength, payload, checkOf, cardOf, writeCard}
+use Rattle.card.specs.Decimal.{digits}
+use Rattle.card.specs.Card.{cardLength, checkOf, cardOf, writeCard}
 use Rattle.card.specs.Steps.{Fits, numberOf}
 use Rattle.card.proofs.Decimal.{length-digits}
 use Rattle.card.proofs.Fields.{payload-digits, payload-decimal}

@@ -2,15 +2,12 @@
 -- enough, and what whole blocks have at each place. Assumes nothing.
 use Prim.Native.Nat.{ℕ, zero, suc, _+_, _<_, _≤_}
 use mathlib.Core.Path.{_≡_, refl, sym, ap, _∙_}
-use mathlib.Core.Bool.{Bool, true, false}
 use mathlib.Core.List.{List, [], _∷_}
 use native.Mathlib.Omega.{arith}
 use native.Mathlib.Decide.{decLt, decLe}
 use borrow.Author.Tests.{lt-ltb, le-ltb, le-leb, lt-leb}
 use lib.ListN.{length}
-use Rattle.refusal.specs.Answer.{unless}
 use Rattle.frame.specs.Frames.{Entry, Frames, whole, past, before, nextAt, entryAt, framesFrom, framesAt, nextFrom}
-use Rattle.frame.specs.Packet.{placeOf}
 
 -- the cases of `framesFrom`
 pub frames-end : (most : ℕ) (s : List ℕ) (at : ℕ) → length s ≤ at → framesFrom most s at ≡ whole []

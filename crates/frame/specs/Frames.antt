@@ -1,7 +1,6 @@
 -- The blocks of a packet: RFC 3611, section 3; document 01, "The packet". "A block: type, one type-specific
 -- byte, block length in 32-bit words less one, then that many words." Blocks fill the packet from byte 8.
 use Prim.Native.Nat.{ℕ, zero, suc, _+_, _*_}
-use mathlib.Core.Bool.{Bool}
 use mathlib.Core.List.{List, [], _∷_}
 use lib.Dec.{ltb, leb}
 use lib.ListN.{length, getD, take, drop}

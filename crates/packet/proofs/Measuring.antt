@@ -1,18 +1,17 @@
 -- Whether a measurement block stands anywhere: one block, and the walk over all. Assumes nothing.
-use Prim.Native.Nat.{ℕ, _+_, _*_, _<_, _≤_}
+use Prim.Native.Nat.{ℕ, _+_, _<_, _≤_}
 use mathlib.Core.Path.{_≡_, refl, sym, ap, _∙_}
-use mathlib.Core.Bool.{Bool, true, false, _&&_, _||_}
-use mathlib.Core.List.{List, [], _∷_}
+use mathlib.Core.Bool.{true, false}
+use mathlib.Core.List.{List, []}
 use native.Mathlib.Omega.{arith}
-use borrow.Author.Tests.{eq-eqb, ne-eqb}
 use lib.Dec.{eqb}
 use lib.ListN.{length, getD, take, drop, length-take, length-drop}
 use lib.Seq.{getD-take, getD-drop}
-use Rattle.wire.specs.BigEndian.{be16, be32, u16At, u32At}
-use Rattle.wire.proofs.Numbers.{u32-inside}
-use Rattle.block.specs.Types.{measurementType, measurementWords}
-use Rattle.frame.specs.Frames.{Entry, whole, bodyLength, nextAt, entryAt, framesAt, framesOf, firstBlock, entriesOf}
-use Rattle.frame.proofs.Stepping.{First, first-of, at-end}
+use Rattle.wire.specs.BigEndian.{be16, be32}
+use Rattle.block.specs.Reading.{measuredBy}
+use Rattle.block.specs.declared.Measures.the-variants.{Source, Nothing}
+use Rattle.frame.specs.Frames.{Entry, whole, bodyLength, nextAt, entryAt, framesAt, firstBlock}
+use Rattle.frame.proofs.Stepping.{first-of, at-end}
 use Rattle.packet.specs.Blocks.{measures, measured}
 use Rattle.packet.specs.Steps.{Inside, blocksOf, Whole}
 
@@ -35,23 +34,14 @@ be32-body s at n h =
     let last : at + 2 + 1 ≡ at + 3 = omega arith in
     rw (part-at s at n 0 (omega arith), part-at s at n 1 (omega arith), part-at s at n 2 (omega arith), part-at s at n 3 (omega arith), none, last)
 
-module _ (s : List ℕ) (at source : ℕ) (i : Inside s at) where
-  pub other-kind : (getD s at 0 ≡ measurementType → ⊥) → false ≡ measures source (entryAt s at)
-  unfolding measures entryAt
-  other-kind h = rw (ne-eqb (getD s at 0) measurementType h)
+-- what a block measures, as the test of each source
+pub names-source : (e : Entry) (x : ℕ) → measuredBy (e .kind) (e .body) ≡ Source x → (y : ℕ) → measures y e ≡ eqb x y
+unfolding measures
+names-source e x m y = rw m
 
-  pub other-size : getD s at 0 ≡ measurementType → (u16At s (at + 2) ≡ measurementWords → ⊥) → false ≡ measures source (entryAt s at)
-  unfolding measures entryAt
-  other-size k h =
-      let size : length (take (bodyLength s at) (drop (at + 4) s)) ≡ bodyLength s at = body-length s at i in
-      rw (eq-eqb (getD s at 0) measurementType k, size, ne-eqb (bodyLength s at) (4 * measurementWords) (λ e. h (omega arith)))
-
-  pub same-size : getD s at 0 ≡ measurementType → u16At s (at + 2) ≡ measurementWords → eqb (u32At s (at + 4)) source ≡ measures source (entryAt s at)
-  unfolding measures entryAt
-  same-size k h =
-      let size : length (take (bodyLength s at) (drop (at + 4) s)) ≡ bodyLength s at = body-length s at i in
-      let ends = i .ends in
-      rw (eq-eqb (getD s at 0) measurementType k, size, eq-eqb (bodyLength s at) (4 * measurementWords) (omega arith), be32-body s (at + 4) (bodyLength s at) (omega arith), u32-inside s (at + 4) (omega arith))
+pub names-nothing : (e : Entry) → measuredBy (e .kind) (e .body) ≡ Nothing → (y : ℕ) → measures y e ≡ false
+unfolding measures
+names-nothing e m y = rw m
 
 -- The search stands at `at`: none of the blocks passed measures the source.
 pub record Search (s : List ℕ) (source at : ℕ) : Type 0 where

@@ -8,7 +8,7 @@ use native.Mathlib.Decide.{decLt}
 use lib.ListN.{length}
 use Rattle.frame.specs.Frames.{Entry, whole, nextAt, entryAt, framesAt}
 use Rattle.frame.specs.Packet.{placeOf}
-use Rattle.frame.proofs.Stepping.{First, first-of, at-end}
+use Rattle.frame.proofs.Stepping.{first-of, at-end}
 use Rattle.refusal.specs.Table.{noSuchBlock}
 use Rattle.packet.specs.declared.BlockAt.the-variants.{Found, Refused}
 use Rattle.packet.specs.Blocks.{readIn}

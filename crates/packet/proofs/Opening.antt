@@ -1,6 +1,6 @@
 -- A packet opened: what header and walk say together, and what an opened packet has. Assumes nothing.
 use Prim.Native.Nat.{ℕ}
-use mathlib.Core.Path.{_≡_, refl, sym, ap, _∙_}
+use mathlib.Core.Path.{_≡_, refl}
 use mathlib.Core.List.{List}
 use native.Mathlib.Omega.{arith}
 use lib.ListN.{length}
@@ -12,7 +12,7 @@ use Rattle.frame.specs.declared.Walked.the-variants.{Blocks as Walked·Blocks, 
 use Rattle.frame.specs.Frames.{Entry, Frames, whole, past, framesOf}
 use Rattle.frame.specs.Packet.{Packet, good, bad, headerOf, framed, packetOf, placeOf, walkedOf}
 use Rattle.packet.specs.declared.Opened.the-variants.{Blocks, Refused}
-use Rattle.packet.specs.Steps.{openedOf, blocksOf, Whole}
+use Rattle.packet.specs.Steps.{openedOf, Whole}
 
 -- the cases of opening
 pub header-refused : (s : List ℕ) (k : ℕ) (r : Refusal) → headerOf s ≡ Header·Refused r → Refused r ≡ openedOf (packetOf s) k

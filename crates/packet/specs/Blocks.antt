@@ -1,24 +1,27 @@
 -- The blocks of a packet read together: document 01, "The packet". A block is read as by itself, but for D4:
 -- "a 17 or 18 with no well-sized block 14 for the same source anywhere in the packet, before or after".
-use Prim.Native.Nat.{ℕ, _*_}
-use mathlib.Core.Bool.{Bool, false, _&&_, _||_}
+use Prim.Native.Nat.{ℕ}
+use mathlib.Core.Bool.{Bool, false, _||_}
 use mathlib.Core.List.{List, [], _∷_}
 use lib.Dec.{eqb}
-use lib.ListN.{length}
 use Rattle.refusal.specs.Answer.{unless}
-use Rattle.wire.specs.BigEndian.{be32}
-use Rattle.block.specs.Types.{measurementType, measurementWords, unmeasured}
-use Rattle.block.specs.Reading.{readBlock, needsOf}
+use Rattle.block.specs.Types.{unmeasured}
+use Rattle.block.specs.Reading.{readBlock, needsOf, measuredBy}
 use Rattle.block.specs.declared.BlockRead.{BlockRead}
 use Rattle.block.specs.declared.BlockRead.the-variants.{Typed, Unknown, Dropped}
 use Rattle.block.specs.declared.Needs.{Needs}
 use Rattle.block.specs.declared.Needs.the-variants.{Nothing, MeasurementOf}
+use Rattle.block.specs.declared.Measures.{Measures}
+use Rattle.block.specs.declared.Measures.the-variants.{Source, Nothing as Measures·Nothing}
 use Rattle.frame.specs.Frames.{Entry}
 
 -- a well-sized block 14 for this source
+abbrev pub names : Measures → ℕ → Bool
+names (Source measured) source = eqb measured source
+names Measures·Nothing source = false
+
 unfoldable pub measures : ℕ → Entry → Bool
-measures source e =
-    eqb (e .kind) measurementType && (eqb (length (e .body)) (4 * measurementWords) && eqb (be32 (e .body) 0) source)
+measures source e = names (measuredBy (e .kind) (e .body)) source
 
 -- one of them stands anywhere in the list
 unfoldable pub measured : ℕ → List Entry → Bool

@@ -3,7 +3,6 @@ use Prim.Native.Nat.{ℕ, _<_, _≤_}
 use mathlib.Core.Path.{_≡_}
 use mathlib.Core.List.{List}
 use lib.ListN.{length}
-use Rattle.refusal.specs.declared.Refusal.{Refusal}
 use Rattle.frame.specs.Frames.{Entry, whole, nextAt, framesOf, entriesOf}
 use Rattle.frame.specs.Packet.{Packet, good, bad, placeOf}
 use Rattle.packet.specs.declared.Opened.{Opened}

@@ -1,6 +1,7 @@
 // One report packet read: document 01, "The packet". Every call judges the whole packet first, then answers
 // from its list of blocks.
 use block::BlockRead;
+use block::Measures;
 use block::Needs;
 use frame::Header;
 use frame::Walked;
@@ -166,11 +167,10 @@ fn measures_at(s: &[u8], at: usize, source: u32) -> bool
     requires { ⌜ Inside (now s) at ⌝ }
     ensures { λ r. ⌜ r ≡ measures source (entryAt (now (s .entry)) at) ⌝ }
 {
-    if s[at] != block::MEASUREMENT {
-        return false;
+    let start = at + 4;
+    let end = frame::next_block(s, at);
+    match block::measured_by(s[at], &s[start..end]) {
+        Measures::Source(measured) => measured == source,
+        Measures::Nothing => false,
     }
-    if wire::u16_at(s, at + 2) != 7 {
-        return false;
-    }
-    wire::u32_at(s, at + 4) == source
 }

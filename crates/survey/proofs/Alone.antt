@@ -1,21 +1,18 @@
 -- The verdict of a block by itself, by its type. Assumes nothing.
-use Prim.Native.Nat.{ℕ, _/_, _*_}
-use mathlib.Core.Path.{_≡_, refl, sym, ap, _∙_}
-use mathlib.Core.Bool.{Bool, true, false, cond}
+use Prim.Native.Nat.{ℕ}
+use mathlib.Core.Path.{_≡_, refl}
+use mathlib.Core.Bool.{Bool, true, false}
 use mathlib.Core.List.{List}
-use borrow.Author.Tests.{eq-eqb, ne-eqb, eqb-true}
+use borrow.Author.Tests.{ne-eqb, eqb-true}
 use lib.Dec.{eqb}
 use lib.ListN.{length}
 use Rattle.refusal.specs.Answer.{unless}
-use Rattle.wire.specs.BigEndian.{be16}
 use Rattle.block.specs.Types.{measurementType, lossType, discardType, effectiveType, streamsType, badSize}
-use Rattle.block.specs.Layouts.{flagIn}
-use Rattle.block.specs.Reading.{summaryFault, readMeasurement, readLoss, readDiscard, readEffective, readStreams, readBlock}
+use Rattle.block.specs.Reading.{summaryReason, readMeasurement, readLoss, readDiscard, readEffective, readStreams, readBlock}
 use Rattle.block.specs.declared.Block.{Block}
-use Rattle.block.specs.declared.BlockRead.{BlockRead}
-use Rattle.block.specs.declared.BlockRead.the-variants.{Typed, Unknown, Dropped}
+use Rattle.block.specs.declared.BlockRead.the-variants.{Typed, Dropped}
 use Rattle.survey.specs.Survey.{verdictOf}
-use Rattle.survey.specs.Alone.{sizeVerdict, summaryVerdict}
+use Rattle.survey.specs.Alone.{sizeVerdict}
 
 by-size : (t : Bool) (b : Block) → unless t badSize 0 ≡ verdictOf (unless t (Dropped badSize) (Typed b))
 by-size true b = refl
@@ -25,22 +22,18 @@ by-fault : (fault : ℕ) (b : Block) (t : Bool) → eqb fault 0 ≡ t → fault 
 by-fault fault b true e = eqb-true fault 0 e
 by-fault fault b false e = refl
 
-by-summary : (t : Bool) (fault : ℕ) (b : Block) → unless t badSize fault ≡ verdictOf (unless t (Dropped badSize) (unless (eqb fault 0) (Dropped fault) (Typed b)))
-by-summary true fault b = by-fault fault b (eqb fault 0) refl
-by-summary false fault b = refl
-
 module _ (kind specific : ℕ) (body : List ℕ) where
   pub of-measurement : kind ≡ measurementType → sizeVerdict (length body) 28 ≡ verdictOf (readBlock kind specific body)
   unfolding readBlock readMeasurement
   of-measurement k = rw k (by-size (eqb (length body) 28) _)
 
-  pub of-loss : kind ≡ lossType → summaryVerdict specific body 12 ≡ verdictOf (readBlock kind specific body)
+  pub of-loss : kind ≡ lossType → summaryReason 12 specific body ≡ verdictOf (readBlock kind specific body)
   unfolding readBlock readLoss
-  of-loss k = rw k (by-summary (eqb (length body) 12) _ _)
+  of-loss k = rw k (by-fault (summaryReason 12 specific body) _ _ refl)
 
-  pub of-discard : kind ≡ discardType → summaryVerdict specific body 8 ≡ verdictOf (readBlock kind specific body)
+  pub of-discard : kind ≡ discardType → summaryReason 8 specific body ≡ verdictOf (readBlock kind specific body)
   unfolding readBlock readDiscard
-  of-discard k = rw k (by-summary (eqb (length body) 8) _ _)
+  of-discard k = rw k (by-fault (summaryReason 8 specific body) _ _ refl)
 
   pub of-effective : kind ≡ effectiveType → sizeVerdict (length body) 8 ≡ verdictOf (readBlock kind specific body)
   unfolding readBlock readEffective

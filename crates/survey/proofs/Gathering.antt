@@ -1,93 +1,55 @@
 -- The measured sources of a packet gathered block by block. Assumes nothing.
 use Prim.Native.Nat.{ℕ, _+_, _*_, _<_, _≤_}
 use mathlib.Core.Path.{_≡_, refl, sym, ap, _∙_}
-use mathlib.Core.Bool.{Bool, true, false, _&&_, _||_}
+use mathlib.Core.Bool.{Bool, true, false, _||_}
 use mathlib.Core.List.{List, [], _∷_, _++_, append-nil}
 use native.Mathlib.Omega.{arith}
-use borrow.Author.Tests.{eq-eqb, ne-eqb, eqb-true}
+use borrow.Author.Tests.{eqb-true}
 use lib.Dec.{eqb}
-use lib.ListN.{length, getD, take, drop, length-append}
+use lib.ListN.{length, take, length-append}
 use lib.Seq.{append-snoc}
 use Rattle.refusal.specs.Answer.{unless}
-use Rattle.wire.specs.BigEndian.{be32, u16At, u32At}
-use Rattle.wire.proofs.Numbers.{u32-inside}
+use Rattle.wire.specs.BigEndian.{be32}
 use Rattle.block.specs.Types.{measurementType, measurementWords}
-use Rattle.frame.specs.Frames.{Entry, Frames, whole, past, before, bodyLength, nextAt, entryAt, framesAt, framesOf, firstBlock}
+use Rattle.block.specs.Reading.{measuredBy}
+use Rattle.block.specs.declared.Measures.the-variants.{Source, Nothing}
+use Rattle.frame.specs.Frames.{Entry, Frames, whole, past, before, nextAt, entryAt, framesAt, framesOf, firstBlock}
 use Rattle.frame.proofs.Stepping.{at-next, at-past, at-end}
 use Rattle.packet.specs.Blocks.{measures, measured}
 use Rattle.packet.specs.Steps.{Inside, blocksOf}
-use Rattle.packet.proofs.Measuring.{body-length, be32-body}
-use Rattle.survey.specs.declared.Measures.{Measures}
-use Rattle.survey.specs.declared.Measures.the-variants.{Source, Nothing}
-use Rattle.survey.specs.Sources.{member, Sorted, Inserted, measuresOf, Grown, ScannedAs}
+use Rattle.packet.proofs.Measuring.{body-length, names-source, names-nothing}
+use Rattle.survey.specs.Sources.{member, Sorted, Inserted, Grown, ScannedAs}
 use Rattle.survey.specs.declared.Scanned.the-variants.{Blocks}
 
--- the cases of `measuresOf` at a place of the packet
-module _ (s : List ℕ) (at : ℕ) (i : Inside s at) where
-  pub other-kind : (getD s at 0 ≡ measurementType → ⊥) → Nothing ≡ measuresOf (entryAt s at)
-  unfolding entryAt
-  other-kind h = rw (ne-eqb (getD s at 0) measurementType h)
-
-  pub other-size : getD s at 0 ≡ measurementType → (u16At s (at + 2) ≡ measurementWords → ⊥) → Nothing ≡ measuresOf (entryAt s at)
-  unfolding entryAt
-  other-size k h =
-      let size : length (take (bodyLength s at) (drop (at + 4) s)) ≡ bodyLength s at = body-length s at i in
-      rw (eq-eqb (getD s at 0) measurementType k, size, ne-eqb (bodyLength s at) (4 * measurementWords) (λ e. h (omega arith)))
-
-  pub same-size : getD s at 0 ≡ measurementType → u16At s (at + 2) ≡ measurementWords → Source (u32At s (at + 4)) ≡ measuresOf (entryAt s at)
-  unfolding entryAt
-  same-size k h =
-      let size : length (take (bodyLength s at) (drop (at + 4) s)) ≡ bodyLength s at = body-length s at i in
-      let ends = i .ends in
-      rw (eq-eqb (getD s at 0) measurementType k, size, eq-eqb (bodyLength s at) (4 * measurementWords) (omega arith), be32-body s (at + 4) (bodyLength s at) (omega arith), u32-inside s (at + 4) (omega arith))
-
--- what a block measures, as the test of each source
-pub record Measured (e : Entry) (x : ℕ) : Type 0 where
-  pub size : length (e .body) ≡ 4 * measurementWords
-  pub test : (y : ℕ) → measures y e ≡ eqb x y
-
-pub measures-source : (e : Entry) (x : ℕ) → measuresOf e ≡ Source x → Measured e x
-unfolding measures
-measures-source e x m = go (eqb (e .kind) measurementType) (eqb (length (e .body)) (4 * measurementWords)) refl refl m
+-- a block that measures a source has the size of a 14
+measured-size : (kind : ℕ) (body : List ℕ) (x : ℕ) → measuredBy kind body ≡ Source x → length body ≡ 4 * measurementWords
+unfolding measuredBy
+measured-size kind body x m = go (eqb kind measurementType) (eqb (length body) (4 * measurementWords)) refl m
   where
-    go : (a b : Bool) → eqb (e .kind) measurementType ≡ a → eqb (length (e .body)) (4 * measurementWords) ≡ b →
-        unless a Nothing (unless b Nothing (Source (be32 (e .body) 0))) ≡ Source x → Measured e x
-    go true true ha hb h =
-        let same : be32 (e .body) 0 ≡ x = cc in
-        record { size = eqb-true (length (e .body)) (4 * measurementWords) hb; test = λ y. rw (ha, hb, same) }
-    go true false ha hb h = let z : _≡_ {A = ℕ} 0 1 = cc in absurd (omega arith)
-    go false b ha hb h = let z : _≡_ {A = ℕ} 0 1 = cc in absurd (omega arith)
-
-pub measures-nothing : (e : Entry) → measuresOf e ≡ Nothing → (y : ℕ) → measures y e ≡ false
-unfolding measures
-measures-nothing e m y = go (eqb (e .kind) measurementType) (eqb (length (e .body)) (4 * measurementWords)) refl refl m
-  where
-    go : (a b : Bool) → eqb (e .kind) measurementType ≡ a → eqb (length (e .body)) (4 * measurementWords) ≡ b →
-        unless a Nothing (unless b Nothing (Source (be32 (e .body) 0))) ≡ Nothing →
-        (eqb (e .kind) measurementType && (eqb (length (e .body)) (4 * measurementWords) && eqb (be32 (e .body) 0) y)) ≡ false
-    go true true ha hb h = let z : _≡_ {A = ℕ} 0 1 = cc in absurd (omega arith)
-    go true false ha hb h = rw (ha, hb)
-    go false b ha hb h = rw ha
+    go : (a b : Bool) → eqb (length body) (4 * measurementWords) ≡ b →
+        unless a Nothing (unless b Nothing (Source (be32 body 0))) ≡ Source x → length body ≡ 4 * measurementWords
+    go true true e h = eqb-true (length body) (4 * measurementWords) e
+    go true false e h = let z : _≡_ {A = ℕ} 0 1 = cc in absurd (omega arith)
+    go false b e h = let z : _≡_ {A = ℕ} 0 1 = cc in absurd (omega arith)
 
 -- one block's turn
 module _ (s : List ℕ) (at : ℕ) (i : Inside s at) (old : List ℕ) (k : ℕ) where
-  pub grown : (new : List ℕ) (x : ℕ) → measuresOf (entryAt s at) ≡ Source x → Inserted old new k x → Grown s at old new k (k + 1)
+  pub grown : (new : List ℕ) (x : ℕ) → measuredBy (entryAt s at .kind) (entryAt s at .body) ≡ Source x → Inserted old new k x → Grown s at old new k (k + 1)
   grown new x m ins =
-      let is = measures-source (entryAt s at) x m in
-      let size = is .size in
+      let size = measured-size (entryAt s at .kind) (entryAt s at .body) x m in
       let body = body-length s at i in
       record {
         sorted = ins .sorted;
-        same = λ y. ins .same y ∙ ap (λ (b : Bool). b || member y (take k old)) (sym (is .test y));
+        same = λ y. ins .same y ∙ ap (λ (b : Bool). b || member y (take k old)) (sym (names-source (entryAt s at) x m y));
         long = ins .long;
         paid = omega arith;
       }
 
-  pub kept : measuresOf (entryAt s at) ≡ Nothing → Sorted (take k old) → Grown s at old old k k
+  pub kept : measuredBy (entryAt s at .kind) (entryAt s at .body) ≡ Nothing → Sorted (take k old) → Grown s at old old k k
   kept m sorted =
       record {
         sorted = sorted;
-        same = λ y. ap (λ (b : Bool). b || member y (take k old)) (sym (measures-nothing (entryAt s at) m y));
+        same = λ y. ap (λ (b : Bool). b || member y (take k old)) (sym (names-nothing (entryAt s at) m y));
         long = refl;
         paid = omega arith;
       }

@@ -1,14 +1,13 @@
 -- The loop that lists a packet's blocks, as plain lists and numbers: its invariant, start, turn and end.
 -- Assumes nothing.
-use Prim.Native.Nat.{ℕ, suc, _+_, _-_, _*_, _<_, _≤_}
+use Prim.Native.Nat.{ℕ, _+_, _-_, _*_, _<_, _≤_}
 use mathlib.Core.Path.{_≡_, refl, sym, ap, _∙_}
-use mathlib.Core.Bool.{true, false}
 use mathlib.Core.List.{List, [], _∷_, _++_, append-assoc, append-nil}
 use native.Mathlib.Omega.{arith}
 use native.Mathlib.Numerals.{add-one}
 use lib.ListN.{length, take, drop, set, length-append, length-drop}
 use borrow.Author.Tests.{le-leb, lt-leb}
-use lib.Seq.{sets, sets-eq, take-at, drop-at, drop-drop}
+use lib.Seq.{sets-eq, take-at, drop-at, drop-drop}
 use Rattle.refusal.specs.Answer.{after}
 use Rattle.refusal.specs.Table.{blockPastEnd, bufferShort}
 use Rattle.refusal.specs.declared.Refusal.{Refusal}
@@ -17,7 +16,7 @@ use Rattle.refusal.specs.declared.Written.the-variants.{Size, Refused}
 use Rattle.frame.specs.declared.Header.the-variants.{Sender, Refused as Header·Refused}
 use Rattle.frame.specs.Frames.{Entry, whole, past, nextAt, entryAt, framesAt, framesOf, firstBlock}
 use Rattle.frame.specs.Packet.{good, headerOf, framed, packetOf}
-use Rattle.frame.proofs.Stepping.{First, first-of, at-end}
+use Rattle.frame.proofs.Stepping.{first-of, at-end}
 use Rattle.packet.specs.Blocks.{readIn}
 use Rattle.survey.specs.Survey.{verdictOf, listing, listOf, listAnswer}
 use Rattle.packet.specs.Steps.{blocksOf, Whole, Inside}

@@ -1,21 +1,21 @@
 -- The verdict of a block among the blocks of its packet, from its verdict by itself, its type and the table of
 -- sources. Assumes nothing.
-use Prim.Native.Nat.{ℕ, _+_, _*_, _/_, _≤_}
+use Prim.Native.Nat.{ℕ, _+_, _*_, _≤_}
 use mathlib.Core.Path.{_≡_, refl, sym, ap, _∙_}
 use mathlib.Core.Bool.{Bool, true, false, cond, _||_}
 use mathlib.Core.List.{List}
-use mathlib.Core.Logic.{_⊎_, inl, inr, ⊎-elim}
 use native.Mathlib.Omega.{arith}
 use native.Mathlib.Decide.{ℕ-discrete}
-use borrow.Author.Tests.{eq-eqb, ne-eqb, eqb-true, eqb-false}
+use borrow.Author.Tests.{ne-eqb, eqb-true, eqb-false}
 use lib.Dec.{eqb}
-use lib.ListN.{length, getD, take, drop}
+use lib.ListN.{length}
 use Rattle.refusal.specs.Answer.{unless}
-use Rattle.wire.specs.BigEndian.{be16, be32, u32At}
+use Rattle.wire.specs.BigEndian.{be32, u32At}
 use Rattle.wire.proofs.Numbers.{u32-inside}
 use Rattle.block.specs.Types.{measurementType, lossType, discardType, effectiveType, streamsType, lossWords, discardWords, badSize, unmeasured}
 use Rattle.block.specs.Layouts.{lossIn, discardIn}
-use Rattle.block.specs.Reading.{summaryFault, sized, summary, readMeasurement, readLoss, readDiscard, readEffective, readStreams, readBlock, needsOf}
+use Rattle.block.specs.Reading.{summaryReason, reasoned, readMeasurement, readLoss, readDiscard, readEffective, readStreams, readBlock, needsOf}
+use Rattle.block.proofs.Cases.{reason-size}
 use Rattle.block.specs.declared.Block.{Block}
 use Rattle.block.specs.declared.Block.the-variants.{Loss, Discard}
 use Rattle.block.specs.declared.BlockRead.{BlockRead}
@@ -64,19 +64,17 @@ record Summary (own : BlockRead) (body : List ℕ) : Type 0 where
   size : 8 ≤ length body
 
 typed-summary : (specific words : ℕ) (body : List ℕ) (b : Block) → 2 ≤ words → needsOf b ≡ MeasurementOf (be32 body 0) →
-    verdictOf (sized words body (summary specific body (Typed b))) ≡ 0 → Summary (sized words body (summary specific body (Typed b))) body
-typed-summary specific words body b w n v = go (eqb (length body) (4 * words)) refl (eqb fault 0) refl v
+    verdictOf (reasoned (summaryReason (4 * words) specific body) (Typed b)) ≡ 0 → Summary (reasoned (summaryReason (4 * words) specific body) (Typed b)) body
+typed-summary specific words body b w n v = go (eqb reason 0) refl v
   where
-    fault : ℕ
-    fault = summaryFault (specific / 64) (be16 body 4) (be16 body 6)
+    reason : ℕ
+    reason = summaryReason (4 * words) specific body
 
-    go : (t : Bool) → eqb (length body) (4 * words) ≡ t → (f : Bool) → eqb fault 0 ≡ f →
-        verdictOf (unless t (Dropped badSize) (unless f (Dropped fault) (Typed b))) ≡ 0 → Summary (unless (eqb (length body) (4 * words)) (Dropped badSize) (unless (eqb fault 0) (Dropped fault) (Typed b))) body
-    go true ht true hf h =
-        let e = eqb-true (length body) (4 * words) ht in
-        record { block = b; typed = rw (ht, hf); needs = n; size = omega arith }
-    go true ht false hf h = absurd (eqb-false fault 0 hf h)
-    go false ht f hf h = absurd (omega arith)
+    go : (t : Bool) → eqb reason 0 ≡ t → verdictOf (unless t (Dropped reason) (Typed b)) ≡ 0 → Summary (unless (eqb reason 0) (Dropped reason) (Typed b)) body
+    go true e h =
+        let size = reason-size (4 * words) specific body (eqb-true reason 0 e) in
+        record { block = b; typed = rw e; needs = n; size = omega arith }
+    go false e h = absurd (eqb-false reason 0 e h)
 
 summary-of : (kind specific : ℕ) (body : List ℕ) → isSummary kind ≡ true → verdictOf (readBlock kind specific body) ≡ 0 → Summary (readBlock kind specific body) body
 unfolding readBlock readLoss readDiscard lossIn discardIn

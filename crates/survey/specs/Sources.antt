@@ -6,18 +6,13 @@ use mathlib.Core.Bool.{Bool, false, _||_}
 use mathlib.Core.List.{List, [], _∷_}
 use lib.Dec.{eqb}
 use lib.ListN.{length, getD, take}
-use Rattle.refusal.specs.Answer.{unless}
-use Rattle.wire.specs.BigEndian.{be32}
-use Rattle.block.specs.Types.{measurementType, measurementWords}
 use Rattle.frame.specs.declared.Header.the-variants.{Sender}
-use Rattle.frame.specs.Frames.{Entry, past, nextAt, entryAt, framesOf}
+use Rattle.frame.specs.Frames.{past, nextAt, entryAt, framesOf}
 use Rattle.frame.specs.Packet.{headerOf}
 use Rattle.packet.specs.Blocks.{measures, measured}
 use Rattle.packet.specs.Steps.{blocksOf, Whole}
 use Rattle.survey.specs.declared.Scanned.{Scanned}
 use Rattle.survey.specs.declared.Scanned.the-variants.{Blocks, Past}
-use Rattle.survey.specs.declared.Measures.{Measures}
-use Rattle.survey.specs.declared.Measures.the-variants.{Source, Nothing}
 
 unfoldable pub member : ℕ → List ℕ → Bool
 member x [] = false
@@ -31,13 +26,6 @@ pub record Inserted (old new : List ℕ) (k x : ℕ) : Type 0 where
   pub sorted : Sorted (take (k + 1) new)
   pub same : (y : ℕ) → member y (take (k + 1) new) ≡ (eqb x y || member y (take k old))
   pub long : length new ≡ length old
-
--- what a block of a packet measures
-abbrev pub measuresOf : Entry → Measures
-measuresOf e =
-    unless (eqb (e .kind) measurementType) Nothing
-    (unless (eqb (length (e .body)) (4 * measurementWords)) Nothing
-    (Source (be32 (e .body) 0)))
 
 -- the first k numbers, with the source of the block at `at` where it measures one
 pub record Grown (s : List ℕ) (at : ℕ) (old new : List ℕ) (k r : ℕ) : Type 0 where

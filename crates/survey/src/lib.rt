@@ -1,6 +1,7 @@
 // All blocks of a packet in one pass: for each its place and its verdict. The sources of the measurement
 // blocks are gathered first, sorted, so that the verdict of a block 17 or 18 looks its source up and does not
 // walk the packet again.
+use block::Measures;
 use frame::Header;
 use refusal::Written;
 ghost use mathlib.Core.Path.{_≡_};
@@ -14,8 +15,8 @@ ghost use Rattle.frame.specs.Packet.{packetOf};
 ghost use Rattle.packet.specs.Blocks.{readIn};
 ghost use Rattle.packet.specs.Steps.{Inside, blocksOf};
 ghost use Rattle.survey.specs.Survey.{verdictOf, listing, listOf, listAnswer};
-ghost use Rattle.survey.specs.Sources.{member, Sorted, Inserted, measuresOf, Grown, Table, Fillable, Listable, ScannedAs};
-ghost use Rattle.survey.specs.Alone.{sizeVerdict, summaryVerdict, isSummary};
+ghost use Rattle.survey.specs.Sources.{member, Sorted, Inserted, Grown, Table, Fillable, Listable, ScannedAs};
+ghost use Rattle.survey.specs.Alone.{sizeVerdict, isSummary};
 
 // The verdicts besides the reasons to drop a block.
 pub const TYPED: u8 = 0;
@@ -108,8 +109,8 @@ fn verdict_alone(kind: u8, specific: u8, body: &[u8]) -> u8
 {
     match kind {
         14 => size_verdict(body.len(), block::MEASUREMENT_BYTES),
-        17 => summary_verdict(specific, body, block::LOSS_BYTES),
-        18 => summary_verdict(specific, body, block::DISCARD_BYTES),
+        17 => block::summary_reason(block::LOSS_BYTES, specific, body),
+        18 => block::summary_reason(block::DISCARD_BYTES, specific, body),
         240 => size_verdict(body.len(), block::EFFECTIVE_BYTES),
         241 => size_verdict(body.len(), block::STREAMS_BYTES),
         _ => UNKNOWN,
@@ -123,16 +124,6 @@ fn size_verdict(length: usize, wanted: usize) -> u8
         return block::BAD_SIZE;
     }
     TYPED
-}
-
-fn summary_verdict(specific: u8, body: &[u8], wanted: usize) -> u8
-    requires { ⌜ 8 ≤ wanted ⌝ }
-    ensures { λ r. ⌜ r ≡ summaryVerdict specific (now (body .entry)) wanted ⌝ }
-{
-    if body.len() != wanted {
-        return block::BAD_SIZE;
-    }
-    block::summary_fault(specific / 64, wire::u16_at(body, 4), wire::u16_at(body, 6))
 }
 
 // Whether a typed block of this type needs a measurement of its source.
@@ -184,44 +175,26 @@ fn scan(s: &[u8], table: &mut [u32]) -> Scanned
         if s.len() < next {
             return Scanned::Past(at);
         }
-        k = gather_at(s, at, table, k);
+        k = gather_at(s, at, next, table, k);
         at = next;
         count += 1;
     }
     Scanned::Blocks(count, k)
 }
 
-// The source of the block at offset at put into the table's first k, where it is a measurement block.
-fn gather_at(s: &[u8], at: usize, table: &mut [u32], k: usize) -> usize
-    requires { ⌜ Inside (now s) at × (k < length (now table)) × Sorted (take k (now table)) ⌝ }
+// The source of the block from offset at to end put into the table's first k, where it measures one.
+fn gather_at(s: &[u8], at: usize, end: usize, table: &mut [u32], k: usize) -> usize
+    requires { ⌜ Inside (now s) at × (end ≡ nextAt (now s) at) × (k < length (now table)) × Sorted (take k (now table)) ⌝ }
     ensures { λ r. ⌜ Grown (now (s .entry)) at (now (table .entry)) (now (table .exit)) k r ⌝ }
 {
-    match measurement_at(s, at) {
+    let start = at + 4;
+    match block::measured_by(s[at], &s[start..end]) {
         Measures::Source(source) => {
             insert(table, k, source);
             k + 1
         }
         Measures::Nothing => k,
     }
-}
-
-// What a block measures: the source of a well-sized measurement block.
-enum Measures {
-    Source(u32),
-    Nothing,
-}
-
-fn measurement_at(s: &[u8], at: usize) -> Measures
-    requires { ⌜ Inside (now s) at ⌝ }
-    ensures { λ r. ⌜ r ≡ measuresOf (entryAt (now (s .entry)) at) ⌝ }
-{
-    if s[at] != block::MEASUREMENT {
-        return Measures::Nothing;
-    }
-    if wire::u16_at(s, at + 2) != 7 {
-        return Measures::Nothing;
-    }
-    Measures::Source(wire::u32_at(s, at + 4))
 }
 
 // Puts x among the first k numbers of table, which are sorted.

@@ -1,7 +1,6 @@
 -- `card::put_digits` meets its contract. The loop's invariant is `Put`. Assumes nothing.
 use Prim.Native.Nat.{_-_}
 use native.Mathlib.Omega.{arith}
-use borrow.Author.Needs.{needs}
 use Rattle.card.proofs.Loops.{Put, put-none, put-more, put-length, put-all}
 use Rattle.card.proofs.put_digits.Statement.{statement}
 use Rattle.card.proofs.put_digits.Tie as tie

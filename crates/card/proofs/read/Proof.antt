@@ -1,11 +1,11 @@
 -- `card::read` meets its contract. Each return is one of the cases of Reading.antt: what the two parts of the
 -- card are as numbers, then the check, then the ranges. Assumes nothing.
-use mathlib.Core.Path.{_≡_, sym, ap, _∙_}
+use mathlib.Core.Path.{sym, ap, _∙_}
 use mathlib.Core.List.{List}
 use Prim.Native.Nat.{ℕ}
 use native.Mathlib.Omega.{arith}
 use borrow.Author.Tests.{not-true, not-false}
-use lib.ListN.{length, take, drop, length-take}
+use lib.ListN.{take, drop, length-take}
 use lib.Seq.{length-take-le}
 use Rattle.card.specs.Steps.{numberIn}
 use Rattle.card.proofs.Decimal.{all-take, all-drop}

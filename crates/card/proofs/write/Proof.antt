@@ -1,7 +1,6 @@
 -- `card::write` meets its contract. Each return is one of the cases of Writing.antt. Assumes nothing.
 use mathlib.Core.Path.{_≡_, sym, _∙_}
 use mathlib.Core.Bool.{true}
-use native.Mathlib.Omega.{arith}
 use borrow.Author.Tests.{not-true, not-false}
 use Rattle.settings.specs.Ranges.{inRange}
 use Rattle.card.proofs.Cases.{in-range-fits}

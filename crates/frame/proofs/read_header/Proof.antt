@@ -1,7 +1,6 @@
 -- `frame::read_header` meets its contract: each return is one of the cases of FirstBytes.antt. Assumes nothing.
 use Prim.Native.Nat.{ℕ, _+_, _*_}
 use mathlib.Core.Path.{_≡_, sym, ap, _∙_}
-use mathlib.Core.List.{List}
 use native.Mathlib.Omega.{arith}
 use Rattle.wire.specs.BigEndian.{be16}
 use Rattle.frame.specs.declared.Header.the-variants.{Sender}

@@ -1,48 +1,75 @@
--- `packet::measures_at` meets its contract: each return is one of the cases of Measuring.antt. Assumes nothing.
-use Prim.Native.Nat.{ℕ}
-use mathlib.Core.Path.{sym, ap, _∙_}
+-- `packet::measures_at` meets its contract: the part that is handed on is the block's body. Assumes nothing.
+use Prim.Native.Nat.{ℕ, _+_, _-_}
+use mathlib.Core.Path.{_≡_, sym, ap, _∙_}
 use native.Mathlib.Omega.{arith}
-use lib.Dec.{eqb}
-use Rattle.packet.proofs.Measuring.{other-kind, other-size, same-size}
+use lib.ListN.{take, drop, getD}
+use Rattle.block.specs.Reading.{measuredBy}
+use Rattle.frame.specs.Frames.{bodyLength, nextAt, entryAt}
+use Rattle.frame.proofs.Stepping.{next-inside}
+use Rattle.packet.proofs.Measuring.{names-source, names-nothing}
 use borrow.Author.Needs.{needs}
 use Rattle.packet.proofs.measures_at.Statement.{statement}
 use Rattle.packet.proofs.measures_at.Tie as tie
 
-shared-slice-read-if1 : tie.Need-shared-slice-read-if1
-shared-slice-read-if1 c = search needs
+add-start : tie.Need-add-start
+add-start c = search needs
+
+next-block-requires : tie.Need-next-block-requires
+next-block-requires c κs = search needs
+
+shared-slice-read-measured-by : tie.Need-shared-slice-read-measured-by
+shared-slice-read-measured-by c = search needs
+
+-- the next block stands where this one ends
+next : (c : tie.After-next-block) → c .next-block .result ≡ nextAt (c .before .before .args .s .now) (c .before .before .args .at)
+next c = c .next-block .ensures ∙ next-inside _ _ (c .before .before .pre .starts)
+
+sub-measured-by : tie.Need-sub-measured-by
+sub-measured-by c = omega (arith, next (c .before))
+
+part-measured-by-start : tie.Need-part-measured-by-start
+part-measured-by-start c = omega (arith, next (c .before))
+
+part-measured-by-end : tie.Need-part-measured-by-end
+part-measured-by-end c = omega (arith, next (c .before), c .before .before .before .pre .ends)
+
+measured-by-requires : tie.Need-measured-by-requires
+measured-by-requires c κs = search needs
+
+told : (c : tie.After-measured-by) →
+    c .measured-by .result ≡ measuredBy (entryAt (c .before .before .before .before .before .args .s .now) (c .before .before .before .before .before .args .at) .kind) (entryAt (c .before .before .before .before .before .args .s .now) (c .before .before .before .before .before .args .at) .body)
+unfolding entryAt
+told c =
+    let n = next (c .before .before .before) in
+    let s = c .before .before .before .before .before .args .s .now in
+    let at = c .before .before .before .before .before .args .at in
+    let size : c .before .before .before .next-block .result - (at + 4) ≡ bodyLength s at = omega arith in
+    c .measured-by .ensures ∙ ap (λ (k : ℕ). measuredBy (getD s at 0) (take k (drop (at + 4) s))) size
+
+enum-known-measured : tie.Need-enum-known-measured
+enum-known-measured c = search needs
+
+enum-told : tie.Need-enum-told
+enum-told c = search needs
 
 returns : tie.Need-returns
-returns c = other-kind _ _ _ (c .before .before .before .pre) (c .if1 .taken)
-
-add-u16-at : tie.Need-add-u16-at
-add-u16-at c = search needs
-
-u16-at-requires : tie.Need-u16-at-requires
-u16-at-requires c κs = search needs
+returns c = sym (names-source _ _ (sym (told (c .before .before .before)) ∙ c .before .measured .given .1) _)
 
 returns-2 : tie.Need-returns-2
-returns-2 c = other-size _ _ _ (c .before .before .before .before .before .pre) (c .before .before .if1 .left) (λ e. c .if2 .taken (c .before .u16-at .ensures ∙ e))
-
-add-u32-at : tie.Need-add-u32-at
-add-u32-at c = search needs
-
-u32-at-requires : tie.Need-u32-at-requires
-u32-at-requires c κs = search needs
-
-returns-3 : tie.Need-returns-3
-returns-3 c =
-    ap (λ (n : ℕ). eqb n (c .before .before .before .before .before .before .args .source)) (c .u32-at .ensures)
-    ∙ same-size _ _ _ (c .before .before .before .before .before .before .pre) (c .before .before .before .if1 .left) (sym (c .before .before .u16-at .ensures) ∙ c .before .if2 .left)
+returns-2 c = sym (names-nothing _ (sym (told (c .before .before)) ∙ c .enum-told .given .1) _)
 
 pub measures-at-spec : {M : Type 1} → statement M
 measures-at-spec =
     tie.close
     (tie.spec
-    shared-slice-read-if1
+    add-start
+    next-block-requires
+    shared-slice-read-measured-by
+    sub-measured-by
+    part-measured-by-start
+    part-measured-by-end
+    measured-by-requires
+    enum-known-measured
+    enum-told
     returns
-    add-u16-at
-    u16-at-requires
-    returns-2
-    add-u32-at
-    u32-at-requires
-    returns-3)
+    returns-2)

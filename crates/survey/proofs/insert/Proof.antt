@@ -1,6 +1,6 @@
 -- `survey::insert` meets its contract. The loop's invariant is `Shift`. Assumes nothing.
 use Prim.Native.Nat.{_-_}
-use mathlib.Core.Path.{_≡_, _∙_}
+use mathlib.Core.Path.{_≡_}
 use native.Mathlib.Omega.{arith}
 use lib.ListN.{length, length-set}
 use Rattle.survey.proofs.Sorting.{Shift, shift-start, shift-length, shift-stop, shift-low, shift-next, shift-zero}

@@ -2,7 +2,7 @@
 use mathlib.Core.Path.{ap, subst, _∙_}
 use native.Mathlib.Omega.{arith}
 use Rattle.refusal.specs.declared.Written.the-variants.{Refused}
-use Rattle.survey.specs.declared.Scanned.the-variants.{Blocks, Past}
+use Rattle.survey.specs.declared.Scanned.the-variants.{Blocks}
 use Rattle.survey.specs.Sources.{ScannedAs}
 use Rattle.survey.proofs.Listing.{list-past, list-short, list-done}
 use borrow.Author.Needs.{needs}

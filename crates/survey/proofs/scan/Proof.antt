@@ -36,7 +36,7 @@ returns c =
 gather-at-requires : tie.Need-gather-at-requires Inv-loop μ-loop
 gather-at-requires c κs =
     let g = c .before .before .before .before .loop .inv in
-    (record { starts = omega (arith, c .before .before .before); ends = omega (arith, next (c .before .before), c .before .if1 .left) }, omega (arith, c .before .before .before, g .low, g .long, c .before .before .before .before .before .before .before .pre), g .sorted)
+    (record { starts = omega (arith, c .before .before .before); ends = omega (arith, next (c .before .before), c .before .if1 .left) }, next (c .before .before), omega (arith, c .before .before .before, g .low, g .long, c .before .before .before .before .before .before .before .pre), g .sorted)
 
 add-count : tie.Need-add-count Inv-loop μ-loop
 add-count c = omega (arith, c .before .before .before .before .before .before, c .before .before .before .before .before .before .before .loop .inv .few)

@@ -8,11 +8,11 @@ use Rattle.survey.proofs.verdict_alone.Tie as tie
 size-verdict-requires : tie.Need-size-verdict-requires
 size-verdict-requires c κs = search needs
 
-summary-verdict-requires : tie.Need-summary-verdict-requires
-summary-verdict-requires c κs = search needs
+summary-reason-requires : tie.Need-summary-reason-requires
+summary-reason-requires c κs = search needs
 
-summary-verdict-requires-2 : tie.Need-summary-verdict-requires-2
-summary-verdict-requires-2 c κs = search needs
+summary-reason-requires-2 : tie.Need-summary-reason-requires-2
+summary-reason-requires-2 c κs = search needs
 
 size-verdict-requires-2 : tie.Need-size-verdict-requires-2
 size-verdict-requires-2 c κs = search needs
@@ -24,10 +24,10 @@ returns : tie.Need-returns
 returns c = c .size-verdict .ensures ∙ of-measurement _ _ _ (c .before .match .keys1)
 
 returns-2 : tie.Need-returns-2
-returns-2 c = c .summary-verdict .ensures ∙ of-loss _ _ _ (c .before .match .keys2)
+returns-2 c = c .summary-reason .ensures ∙ of-loss _ _ _ (c .before .match .keys2)
 
 returns-3 : tie.Need-returns-3
-returns-3 c = c .summary-verdict2 .ensures ∙ of-discard _ _ _ (c .before .match .keys3)
+returns-3 c = c .summary-reason2 .ensures ∙ of-discard _ _ _ (c .before .match .keys3)
 
 returns-4 : tie.Need-returns-4
 returns-4 c = c .size-verdict2 .ensures ∙ of-effective _ _ _ (c .before .match .keys4)
@@ -45,8 +45,8 @@ verdict-alone-spec =
     tie.close
     (tie.spec
     size-verdict-requires
-    summary-verdict-requires
-    summary-verdict-requires-2
+    summary-reason-requires
+    summary-reason-requires-2
     size-verdict-requires-2
     size-verdict-requires-3
     returns
