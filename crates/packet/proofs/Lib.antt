@@ -3,3 +3,4 @@ pub mod Numbered
 pub mod Measuring
 pub mod Chosen
 pub mod Judging
+pub mod Reserved

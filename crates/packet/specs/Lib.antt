@@ -2,3 +2,4 @@ pub mod Blocks
 pub mod Answers
 pub mod Steps
 pub mod Laws
+pub mod Reserved

@@ -4,3 +4,4 @@ pub mod Alone
 pub mod Gathering
 pub mod Verdict
 pub mod Listing
+pub mod Reserved

@@ -1,3 +1,4 @@
 pub mod Survey
 pub mod Sources
 pub mod Alone
+pub mod Laws
