@@ -29,7 +29,7 @@ module _ (body : List ℕ) (p q a b i : ℕ) where
   word : Outside i 4 p → Outside i 4 q → be32 (set (set body p a) q b) i ≡ be32 body i
   word apart apart′ = be32-set (set body p a) i q b apart′ ∙ be32-set body i p a apart
 
-same-measurement : (body : List ℕ) (a b : ℕ) → measurementIn (set (set body 4 a) 5 b) ≡ measurementIn body
+pub same-measurement : (body : List ℕ) (a b : ℕ) → measurementIn (set (set body 4 a) 5 b) ≡ measurementIn body
 unfolding measurementIn
 same-measurement body a b =
     λ i. record {
@@ -46,7 +46,7 @@ pub reserved-measurement : Reserved-measurement
 unfolding readMeasurement
 reserved-measurement body a b = rw (length-set (set body 4 a) 5 b, length-set body 4 a, same-measurement body a b)
 
-same-effective : (body : List ℕ) (a b : ℕ) → effectiveIn (set (set body 6 a) 7 b) ≡ effectiveIn body
+pub same-effective : (body : List ℕ) (a b : ℕ) → effectiveIn (set (set body 6 a) 7 b) ≡ effectiveIn body
 unfolding effectiveIn
 same-effective body a b =
     λ i. record {

@@ -5,6 +5,7 @@ use mathlib.Core.Path.{_≡_, refl}
 use mathlib.Core.Bool.{Bool, true, false, _&&_}
 use native.Mathlib.Omega.{arith}
 use native.Mathlib.Decide.{ℕ-discrete}
+use Rattle.refusal.specs.Answer.{unless}
 
 pub and-left : (a b : Bool) → (a && b) ≡ true → a ≡ true
 and-left true b h = refl
@@ -17,6 +18,11 @@ and-right false false h = h
 
 pub both : (a b : Bool) → a ≡ true → b ≡ true → (a && b) ≡ true
 both a b p q = rw (p, q)
+
+-- an answer that is not the one of a failed test: the test held, and the rest gave it
+pub passed : {A : Type 0} (t : Bool) (failed rest x : A) → (failed ≡ x → ⊥) → unless t failed rest ≡ x → (t ≡ true) × (rest ≡ x)
+passed true failed rest x other h = (refl, h)
+passed false failed rest x other h = absurd (other h)
 
 -- a test of every number below a limit, for the checker to compute
 unfoldable pub below : ℕ → (ℕ → Bool) → Bool

@@ -1,0 +1,88 @@
+-- `encode::write` meets its contract. The loop's invariant is `Stored`. Assumes nothing.
+use Prim.Native.Nat.{_-_}
+use native.Mathlib.Omega.{arith}
+use borrow.Author.Needs.{needs}
+use Rattle.encode.proofs.Storing.{few, no-room, Stored, stored-none, stored-length, stored-more, stored-all}
+use Rattle.encode.proofs.write.Statement.{statement}
+use Rattle.encode.proofs.write.Tie as tie
+
+abbrev Inv-loop : tie.InvT-loop
+Inv-loop out₀ at count all i₀ out i = Stored out₀ at count all out i
+
+abbrev μ-loop : tie.MeasureT-loop
+μ-loop out₀ at count all i₀ out i = count - i
+
+words-requires : tie.Need-words-requires Inv-loop μ-loop
+words-requires c κs = search needs
+
+mul-if1 : tie.Need-mul-if1 Inv-loop μ-loop
+mul-if1 c = omega (arith, few (c .before .before .before .args .b) _ (c .before .words .ensures))
+
+returns : tie.Need-returns Inv-loop μ-loop
+returns c = no-room _ _ (c .before .before .words .ensures) _ _ (omega arith)
+
+mul-if2 : tie.Need-mul-if2 Inv-loop μ-loop
+mul-if2 c = omega (arith, few (c .before .before .before .before .args .b) _ (c .before .before .words .ensures))
+
+sub-if2 : tie.Need-sub-if2 Inv-loop μ-loop
+sub-if2 c = search needs
+
+returns-2 : tie.Need-returns-2 Inv-loop μ-loop
+returns-2 c = no-room _ _ (c .before .before .before .words .ensures) _ _ (omega arith)
+
+loop-holds : tie.Need-loop-holds Inv-loop μ-loop
+loop-holds c = stored-none (c .before .before .before .before .before .args .b) _ (c .before .before .before .words .ensures) _ _ (omega arith)
+
+mul-put-u32 : tie.Need-mul-put-u32 Inv-loop μ-loop
+mul-put-u32 c = omega (arith, c .before .before .loop .inv .most)
+
+add-put-u32 : tie.Need-add-put-u32 Inv-loop μ-loop
+add-put-u32 c = omega (arith, c .before .before .loop .inv .room)
+
+mul-put-u32-2 : tie.Need-mul-put-u32-2 Inv-loop μ-loop
+mul-put-u32-2 c = omega (arith, c .before .before .loop .inv .most)
+
+array-read-put-u32 : tie.Need-array-read-put-u32 Inv-loop μ-loop
+array-read-put-u32 c = omega (arith, c .before .before .loop .inv .most)
+
+put-u32-requires : tie.Need-put-u32-requires Inv-loop μ-loop
+put-u32-requires c κs = search needs
+
+add-i : tie.Need-add-i Inv-loop μ-loop
+add-i c = omega (arith, c .before .before .before .before .before .loop .inv .most)
+
+loop-less : tie.Need-loop-less Inv-loop μ-loop
+loop-less c = omega arith
+
+loop-again : tie.Need-loop-again Inv-loop μ-loop
+loop-again c = stored-more _ _ _ _ _ _ (c .before .before .before .before .before .loop .inv) _ (omega arith) (c .before .before .put-u32 .ensures)
+
+same-length : tie.Need-same-length Inv-loop μ-loop
+same-length c = stored-length _ _ _ _ _ _ (c .before .loop .inv)
+
+returns-3 : tie.Need-returns-3 Inv-loop μ-loop
+returns-3 c = stored-all _ _ (c .before .before .before .before .before .words .ensures) _ _ _ _ (c .before .loop .inv) (omega arith)
+
+pub write-spec : {M : Type 1} → statement M
+write-spec =
+    tie.close
+    (tie.spec
+    Inv-loop
+    μ-loop
+    words-requires
+    mul-if1
+    returns
+    mul-if2
+    sub-if2
+    returns-2
+    loop-holds
+    mul-put-u32
+    add-put-u32
+    mul-put-u32-2
+    array-read-put-u32
+    put-u32-requires
+    add-i
+    loop-less
+    loop-again
+    same-length
+    returns-3)

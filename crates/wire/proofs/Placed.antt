@@ -1,0 +1,72 @@
+-- Bytes placed in a buffer: where they fit, and one run of bytes behind another. Assumes nothing.
+use Prim.Native.Nat.{ℕ, suc, _+_, _<_, _≤_}
+use mathlib.Core.Path.{_≡_, sym, ap, ap₂, _∙_}
+use mathlib.Core.List.{List, [], _∷_, _++_, append-assoc, append-nil}
+use native.Mathlib.Omega.{arith}
+use native.Mathlib.Nat.{add-zero}
+use borrow.Author.Tests.{le-leb, lt-leb}
+use lib.ListN.{length, take, drop, set, length-append, length-drop, take-append-drop}
+use lib.Seq.{length-take-le, take-at, drop-append-add, drop-drop, sets-eq}
+use Rattle.wire.specs.BigEndian.{placed}
+
+module _ (s : List ℕ) (i : ℕ) (xs : List ℕ) where
+  pub placed-out : length s < i + length xs → placed s i xs ≡ s
+  unfolding placed
+  placed-out h = rw (lt-leb (i + length xs) (length s) h)
+
+  pub placed-in : i + length xs ≤ length s → placed s i xs ≡ take i s ++ xs ++ drop (i + length xs) s
+  unfolding placed
+  placed-in h = rw (le-leb (i + length xs) (length s) h)
+
+  pub length-placed : i + length xs ≤ length s → length (placed s i xs) ≡ length s
+  length-placed h =
+      ap length (placed-in h) ∙ length-append (take i s ++ xs) (drop (i + length xs) s)
+      ∙ rw (length-append (take i s) xs, length-take-le i s (omega arith), length-drop (i + length xs) s) (omega arith)
+
+pub placed-none : (s : List ℕ) (i : ℕ) → i ≤ length s → placed s i [] ≡ s
+placed-none s i h =
+    placed-in s i [] (omega arith) ∙ ap₂ (λ (front : List ℕ) (n : ℕ). front ++ drop n s) (append-nil (take i s)) (add-zero i)
+    ∙ take-append-drop i s
+
+-- bytes placed right behind others
+pub placed-more : (s : List ℕ) (i : ℕ) (xs ys : List ℕ) → i + length xs + length ys ≤ length s →
+    placed (placed s i xs) (i + length xs) ys ≡ placed s i (xs ++ ys)
+placed-more s i xs ys h =
+    placed-in (placed s i xs) (i + length xs) ys (rw (length-placed s i xs (omega arith)) h)
+    ∙ ap₂ (λ (front back : List ℕ). front ++ ys ++ back) front back
+    ∙ sym (placed-in s i (xs ++ ys) (rw (length-append xs ys) (omega arith)) ∙ join)
+  where
+    room : i + length xs ≤ length s
+    room = omega arith
+
+    long : length (take i s ++ xs) ≡ i + length xs
+    long = length-append (take i s) xs ∙ ap (λ (n : ℕ). n + length xs) (length-take-le i s (omega arith))
+
+    front : take (i + length xs) (placed s i xs) ≡ take i s ++ xs
+    front = ap (take (i + length xs)) (placed-in s i xs room) ∙ take-at (take i s ++ xs) (drop (i + length xs) s) (i + length xs) long
+
+    back : drop (i + length xs + length ys) (placed s i xs) ≡ drop (i + length xs + length ys) s
+    back =
+        ap (drop (i + length xs + length ys)) (placed-in s i xs room)
+        ∙ ap (λ (n : ℕ). drop (n + length ys) (take i s ++ xs ++ drop (i + length xs) s)) (sym long)
+        ∙ drop-append-add (take i s ++ xs) (drop (i + length xs) s) (length ys)
+        ∙ drop-drop (length ys) (i + length xs) s
+
+    join : take i s ++ (xs ++ ys) ++ drop (i + length (xs ++ ys)) s ≡ take i s ++ xs ++ ys ++ drop (i + length xs + length ys) s
+    join =
+        let end : i + length (xs ++ ys) ≡ i + length xs + length ys = rw (length-append xs ys) (omega arith) in
+        ap₂ (λ (a : List ℕ) (n : ℕ). a ++ drop n s) (sym (append-assoc (take i s) xs ys)) end
+
+-- bytes stored one after the other
+pub stored-2 : (s : List ℕ) (i a b : ℕ) → i + 2 ≤ length s → set (set s i a) (i + 1) b ≡ placed s i (a ∷ b ∷ [])
+stored-2 s i a b h =
+    let one : i + 1 ≡ suc i = omega arith in
+    rw one (sets-eq (a ∷ b ∷ []) s i h ∙ sym (placed-in s i (a ∷ b ∷ []) h))
+
+pub stored-4 : (s : List ℕ) (i a b c d : ℕ) → i + 4 ≤ length s →
+    set (set (set (set s i a) (i + 1) b) (i + 2) c) (i + 3) d ≡ placed s i (a ∷ b ∷ c ∷ d ∷ [])
+stored-4 s i a b c d h =
+    let one : i + 1 ≡ suc i = omega arith in
+    let two : i + 2 ≡ suc (suc i) = omega arith in
+    let three : i + 3 ≡ suc (suc (suc i)) = omega arith in
+    rw (one, two, three) (sets-eq (a ∷ b ∷ c ∷ d ∷ []) s i h ∙ sym (placed-in s i (a ∷ b ∷ c ∷ d ∷ []) h))
