@@ -59,6 +59,7 @@ const UNAVAILABLE: u16 = 65_535;
 //  +-+-+-+-+-+-+-+-+-+-+-+-+-+-+-+-+-+-+-+-+-+-+-+-+-+-+-+-+-+-+-+-+
 //  |     Measurement Duration (Cumulative) - Fraction (bit 0-31)   |
 //  +-+-+-+-+-+-+-+-+-+-+-+-+-+-+-+-+-+-+-+-+-+-+-+-+-+-+-+-+-+-+-+-+
+#[repr(C)]
 pub struct Measurement {
     pub source: u32,
     pub first: u16,
@@ -82,6 +83,7 @@ pub struct Measurement {
 //  +-+-+-+-+-+-+-+-+-+-+-+-+-+-+-+-+-+-+-+-+-+-+-+-+-+-+-+-+-+-+-+-+
 //  |      Burst Duration Mean      |    Burst Duration Variance    |
 //  +-+-+-+-+-+-+-+-+-+-+-+-+-+-+-+-+-+-+-+-+-+-+-+-+-+-+-+-+-+-+-+-+
+#[repr(C)]
 pub struct LossSummary {
     pub flag: u8,
     pub source: u32,
@@ -100,6 +102,7 @@ pub struct LossSummary {
 //  +-+-+-+-+-+-+-+-+-+-+-+-+-+-+-+-+-+-+-+-+-+-+-+-+-+-+-+-+-+-+-+-+
 //  |       Burst Discard Rate      |        Gap Discard Rate       |
 //  +-+-+-+-+-+-+-+-+-+-+-+-+-+-+-+-+-+-+-+-+-+-+-+-+-+-+-+-+-+-+-+-+
+#[repr(C)]
 pub struct DiscardSummary {
     pub flag: u8,
     pub source: u32,
@@ -116,6 +119,7 @@ pub struct DiscardSummary {
 //  +-+-+-+-+-+-+-+-+-+-+-+-+-+-+-+-+-+-+-+-+-+-+-+-+-+-+-+-+-+-+-+-+
 //  |     Effective Loss Index      |            Reserved           |
 //  +-+-+-+-+-+-+-+-+-+-+-+-+-+-+-+-+-+-+-+-+-+-+-+-+-+-+-+-+-+-+-+-+
+#[repr(C)]
 pub struct EffectiveLoss {
     pub source: u32,
     pub index: u16,
@@ -133,6 +137,7 @@ pub struct EffectiveLoss {
 //  +-+-+-+-+-+-+-+-+-+-+-+-+-+-+-+-+-+-+-+-+-+-+-+-+-+-+-+-+-+-+-+-+
 //  |             Number of TSs, then eight counts of 32 bits       |
 //  +-+-+-+-+-+-+-+-+-+-+-+-+-+-+-+-+-+-+-+-+-+-+-+-+-+-+-+-+-+-+-+-+
+#[repr(C)]
 pub struct StreamCounts {
     pub source: u32,
     pub begin: u16,

@@ -3,6 +3,9 @@
 // definition of specs/Answers.antt.
 use block::Block;
 use block::BlockRead;
+use block::DiscardSummary;
+use block::EffectiveLoss;
+use block::LossSummary;
 use block::Measurement;
 use block::StreamCounts;
 use card::CardRead;
@@ -16,9 +19,10 @@ ghost use mathlib.Core.Path.{_≡_};
 ghost use Rattle.refusal.specs.Answer.{after};
 ghost use Rattle.card.specs.Card.{readCard, cardOf, writeCard};
 ghost use Rattle.block.specs.Reading.{readBlock};
-ghost use Rattle.block.specs.declared.Block.the-variants.{Measured, Streams};
+ghost use Rattle.block.specs.declared.Block.the-variants.{Measured, Loss, Discard, Effective, Streams};
 ghost use Rattle.frame.specs.Packet.{packetOf};
 ghost use Rattle.packet.specs.Answers.{headOf, blockOf, partOf};
+ghost use Rattle.compose.specs.Writing.{newBytes, newAnswer, addAnswer, grown};
 ghost use Rattle.survey.specs.Survey.{listOf, listAnswer};
 ghost use Rattle.nuvaskoe.specs.Answers.{writtenOut, cardOut, packetOut, fieldsOf, readOut, blockOut};
 
@@ -295,4 +299,54 @@ pub extern "C" fn nuvaskoe_block_read(kind: u8, specific: u8, body: &[u8]) -> Bl
     ensures { λ r. ⌜ r ≡ readOut kind (readBlock kind specific (now (body .entry))) ⌝ }
 {
     read_out(kind, block::read(kind, specific, body))
+}
+
+// A packet with this sender and no blocks, in the first eight bytes of out.
+#[no_mangle]
+pub extern "C" fn nuvaskoe_packet_new(sender: u32, out: &mut [u8]) -> WrittenSize
+    ensures answer { λ r. ⌜ r ≡ writtenOut (newAnswer (now (out .entry))) ⌝ }
+    ensures buffer { λ r. ⌜ now (out .exit) ≡ after (newAnswer (now (out .entry))) (newBytes sender) (now (out .entry)) ⌝ }
+{
+    written_out(compose::new_packet(out, sender))
+}
+
+// Adds a block to the packet at the front of out; one call for each kind.
+#[no_mangle]
+pub extern "C" fn nuvaskoe_packet_add_measurement(out: &mut [u8], m: Measurement) -> WrittenSize
+    ensures answer { λ r. ⌜ r ≡ writtenOut (addAnswer (now (out .entry)) (Measured m)) ⌝ }
+    ensures buffer { λ r. ⌜ now (out .exit) ≡ after (addAnswer (now (out .entry)) (Measured m)) (grown (now (out .entry)) (Measured m)) (now (out .entry)) ⌝ }
+{
+    written_out(compose::add(out, Block::Measured(m)))
+}
+
+#[no_mangle]
+pub extern "C" fn nuvaskoe_packet_add_loss(out: &mut [u8], l: LossSummary) -> WrittenSize
+    ensures answer { λ r. ⌜ r ≡ writtenOut (addAnswer (now (out .entry)) (Loss l)) ⌝ }
+    ensures buffer { λ r. ⌜ now (out .exit) ≡ after (addAnswer (now (out .entry)) (Loss l)) (grown (now (out .entry)) (Loss l)) (now (out .entry)) ⌝ }
+{
+    written_out(compose::add(out, Block::Loss(l)))
+}
+
+#[no_mangle]
+pub extern "C" fn nuvaskoe_packet_add_discard(out: &mut [u8], d: DiscardSummary) -> WrittenSize
+    ensures answer { λ r. ⌜ r ≡ writtenOut (addAnswer (now (out .entry)) (Discard d)) ⌝ }
+    ensures buffer { λ r. ⌜ now (out .exit) ≡ after (addAnswer (now (out .entry)) (Discard d)) (grown (now (out .entry)) (Discard d)) (now (out .entry)) ⌝ }
+{
+    written_out(compose::add(out, Block::Discard(d)))
+}
+
+#[no_mangle]
+pub extern "C" fn nuvaskoe_packet_add_effective(out: &mut [u8], e: EffectiveLoss) -> WrittenSize
+    ensures answer { λ r. ⌜ r ≡ writtenOut (addAnswer (now (out .entry)) (Effective e)) ⌝ }
+    ensures buffer { λ r. ⌜ now (out .exit) ≡ after (addAnswer (now (out .entry)) (Effective e)) (grown (now (out .entry)) (Effective e)) (now (out .entry)) ⌝ }
+{
+    written_out(compose::add(out, Block::Effective(e)))
+}
+
+#[no_mangle]
+pub extern "C" fn nuvaskoe_packet_add_streams(out: &mut [u8], t: StreamCounts) -> WrittenSize
+    ensures answer { λ r. ⌜ r ≡ writtenOut (addAnswer (now (out .entry)) (Streams t)) ⌝ }
+    ensures buffer { λ r. ⌜ now (out .exit) ≡ after (addAnswer (now (out .entry)) (Streams t)) (grown (now (out .entry)) (Streams t)) (now (out .entry)) ⌝ }
+{
+    written_out(compose::add(out, Block::Streams(t)))
 }

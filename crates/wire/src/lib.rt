@@ -42,10 +42,11 @@ fn pair(s: &[u8], i: usize) -> u16
 pub fn put_u16(s: &mut [u8], i: usize, n: u16)
     ensures { λ r. ⌜ now (s .exit) ≡ placed (now (s .entry)) i (bytes16 n) ⌝ }
 {
-    if s.len() < 2 {
+    let length = s.len();
+    if length < 2 {
         return;
     }
-    if s.len() - 2 < i {
+    if length - 2 < i {
         return;
     }
     s[i] = (n / 256) as u8;
@@ -56,10 +57,11 @@ pub fn put_u16(s: &mut [u8], i: usize, n: u16)
 pub fn put_u32(s: &mut [u8], i: usize, n: u32)
     ensures { λ r. ⌜ now (s .exit) ≡ placed (now (s .entry)) i (bytes32 n) ⌝ }
 {
-    if s.len() < 4 {
+    let length = s.len();
+    if length < 4 {
         return;
     }
-    if s.len() - 4 < i {
+    if length - 4 < i {
         return;
     }
     s[i] = (n / 16_777_216) as u8;

@@ -10,9 +10,6 @@ use Rattle.wire.proofs.put_u32.Tie as tie
 returns : tie.Need-returns
 returns c = sym (placed-out _ (c .before .args .i) _ (omega arith))
 
-sub-if2 : tie.Need-sub-if2
-sub-if2 c = search needs
-
 returns-2 : tie.Need-returns-2
 returns-2 c = sym (placed-out _ (c .before .before .args .i) _ (omega arith))
 
@@ -60,7 +57,6 @@ put-u32-spec =
     tie.close
     (tie.spec
     returns
-    sub-if2
     returns-2
     cast-s
     slice-write-s
