@@ -139,7 +139,7 @@ pub fn read(block_type: u8, specific: u8, body: &[u8]) -> Reading {
 }
 
 /// "Rates are 0 to 32,768, or 65,535 for unavailable."
-fn is_rate(number: u16) -> bool {
+pub(crate) fn is_rate(number: u16) -> bool {
     number <= 32_768 || number == 65_535
 }
 

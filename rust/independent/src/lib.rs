@@ -5,5 +5,6 @@
 
 pub mod block;
 pub mod card;
+pub mod compose;
 pub mod packet;
 pub mod refusal;

@@ -100,22 +100,30 @@ pub fn list_into(packet: &[u8], out: &mut [u32]) -> Result<usize, Refusal> {
 
 /// The header's checks, and the sender.
 fn sender(packet: &[u8]) -> Result<u32, Refusal> {
-    if packet.len() < 8 {
+    size(packet, |size| size == packet.len())?;
+    Ok(word(packet, 4))
+}
+
+/// The header's checks, and the size that its length field gives: 4 × (length + 1), which
+/// is refused with 4 unless it `fits`.
+pub(crate) fn size(bytes: &[u8], fits: impl Fn(usize) -> bool) -> Result<usize, Refusal> {
+    if bytes.len() < 8 {
         return Err(Refusal::PACKET_SHORT);
     }
-    if packet[0] >> 6 != 2 {
+    if bytes[0] >> 6 != 2 {
         return Err(Refusal::VERSION);
     }
-    if packet[1] != 207 {
+    if bytes[1] != 207 {
         return Err(Refusal::PACKET_TYPE);
     }
-    if 4 * (usize::from(half(packet, 2)) + 1) != packet.len() {
+    let size = 4 * (usize::from(half(bytes, 2)) + 1);
+    if !fits(size) {
         return Err(Refusal::PACKET_LENGTH);
     }
-    if packet[0] & 0b0010_0000 != 0 {
+    if bytes[0] & 0b0010_0000 != 0 {
         return Err(Refusal::PADDING);
     }
-    Ok(word(packet, 4))
+    Ok(size)
 }
 
 /// The blocks of a packet with a good header, up to the first that runs past the end.

@@ -14,7 +14,7 @@ impl Refusal {
     pub const VERSION: Refusal = Refusal::without_place(2);
     /// byte 1 not 207
     pub const PACKET_TYPE: Refusal = Refusal::without_place(3);
-    /// 4 × (length + 1) is not the slice's length
+    /// 4 × (length + 1) is not the slice's length; when adding, exceeds the buffer or is under 8
     pub const PACKET_LENGTH: Refusal = Refusal::without_place(4);
     /// padding bit set
     pub const PADDING: Refusal = Refusal::without_place(5);
@@ -30,6 +30,10 @@ impl Refusal {
     pub const CARD_FIELD: Refusal = Refusal::without_place(13);
     /// a setting outside its range, or a tally not sound
     pub const SETTING: Refusal = Refusal::without_place(15);
+    /// block 17 or 18 to write has a flag other than 1, 2 or 3, or a rate that reading would drop
+    pub const BLOCK_TO_WRITE: Refusal = Refusal::without_place(16);
+    /// packet length would pass 65,535
+    pub const PACKET_FULL: Refusal = Refusal::without_place(17);
 
     /// a block runs past the end; its place is the block's offset
     pub const fn block_past_end(offset: usize) -> Refusal {
