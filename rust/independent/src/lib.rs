@@ -8,3 +8,4 @@ pub mod card;
 pub mod compose;
 pub mod packet;
 pub mod refusal;
+pub mod trace;

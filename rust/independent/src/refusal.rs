@@ -22,6 +22,8 @@ impl Refusal {
     pub const NO_SUCH_BLOCK: Refusal = Refusal::without_place(7);
     /// buffer shorter than the result needs
     pub const BUFFER_SHORT: Refusal = Refusal::without_place(8);
+    /// trace empty or over 65,536; a tally at 65,536 given one more
+    pub const TRACE_LENGTH: Refusal = Refusal::without_place(10);
     /// card not 20 digits
     pub const CARD_DIGITS: Refusal = Refusal::without_place(11);
     /// card check not right
@@ -40,6 +42,15 @@ impl Refusal {
         Refusal {
             number: 6,
             place: offset,
+        }
+    }
+
+    /// trace byte above 2, or such a byte given to a tally; its place is the first bad
+    /// byte's index in a trace
+    pub const fn trace_byte(index: usize) -> Refusal {
+        Refusal {
+            number: 9,
+            place: index,
         }
     }
 
