@@ -4,6 +4,7 @@
 #![forbid(unsafe_code)]
 
 pub mod block;
+pub mod burst;
 pub mod card;
 pub mod compose;
 pub mod packet;
