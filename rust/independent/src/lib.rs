@@ -9,4 +9,5 @@ pub mod card;
 pub mod compose;
 pub mod packet;
 pub mod refusal;
+pub mod tally;
 pub mod trace;
