@@ -7,6 +7,7 @@ pub mod block;
 pub mod burst;
 pub mod card;
 pub mod compose;
+pub mod effective;
 pub mod packet;
 pub mod refusal;
 pub mod tally;

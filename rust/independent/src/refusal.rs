@@ -30,6 +30,8 @@ impl Refusal {
     pub const CARD_CHECK: Refusal = Refusal::without_place(12);
     /// card field outside its range
     pub const CARD_FIELD: Refusal = Refusal::without_place(13);
+    /// batch longer than the trace
+    pub const BATCH_LONG: Refusal = Refusal::without_place(14);
     /// a setting outside its range, or a tally not sound
     pub const SETTING: Refusal = Refusal::without_place(15);
     /// block 17 or 18 to write has a flag other than 1, 2 or 3, or a rate that reading would drop

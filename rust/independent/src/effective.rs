@@ -1,0 +1,95 @@
+//! "Effective loss (document 002)": once over every batch in full, once with the losses of
+//! a batch carried on to the next. Refusals in order: 15, 10, 9, 14.
+
+use crate::refusal::Refusal;
+use crate::trace::{self, Event};
+
+/// "The answer is K, N, the integer part of K × 65535 / N, and it names the first batch
+/// whose losses exceed the threshold, or says none."
+#[derive(Debug, Clone, Copy, PartialEq, Eq)]
+pub struct EffectiveLoss {
+    /// K
+    pub over: u64,
+    /// N
+    pub batches: u64,
+    pub index: u16,
+    /// A batch goes by the position of its first packet.
+    pub first: Option<usize>,
+}
+
+/// The effective loss of `trace`, each batch counted by itself.
+pub fn effective_loss(trace: &[u8], batch: u64, threshold: u64) -> Result<EffectiveLoss, Refusal> {
+    check(trace, batch, threshold)?;
+    let over: Vec<bool> = trace
+        .windows(batch as usize)
+        .map(|batch| losses(batch) > threshold)
+        .collect();
+    let count = over.iter().filter(|over| **over).count();
+    Ok(answer(
+        count as u64,
+        over.len() as u64,
+        over.iter().position(|over| *over),
+    ))
+}
+
+/// The same in one pass after the checks: a batch has the losses of the batch before it,
+/// and those of the packet that comes, less those of the packet that leaves.
+pub fn running_effective_loss(
+    trace: &[u8],
+    batch: u64,
+    threshold: u64,
+) -> Result<EffectiveLoss, Refusal> {
+    check(trace, batch, threshold)?;
+    let (threshold, after) = (threshold as i32, &trace[batch as usize..]);
+    let batches = after.len() as u64 + 1;
+    let mut changes = trace
+        .iter()
+        .zip(after)
+        .map(|(left, come)| i32::from(is_lost(*come)) - i32::from(is_lost(*left)));
+    let mut lost = losses(&trace[..batch as usize]) as i32;
+    let mut first = 0;
+    while lost <= threshold {
+        let Some(change) = changes.next() else {
+            return Ok(answer(0, batches, None));
+        };
+        lost += change;
+        first += 1;
+    }
+    let mut over = 1;
+    for change in changes {
+        lost += change;
+        over += u32::from(lost > threshold);
+    }
+    Ok(answer(u64::from(over), batches, Some(first)))
+}
+
+/// The checks of a call that takes a trace, B and T.
+pub(crate) fn check(trace: &[u8], batch: u64, threshold: u64) -> Result<(), Refusal> {
+    trace::check_batch_settings(batch, threshold)?;
+    trace::check(trace)?;
+    if batch > trace.len() as u64 {
+        return Err(Refusal::BATCH_LONG);
+    }
+    Ok(())
+}
+
+/// "Discarded packets do not count."
+pub(crate) fn is_lost(byte: u8) -> bool {
+    byte == Event::Lost.byte()
+}
+
+fn losses(batch: &[u8]) -> u64 {
+    batch.iter().filter(|byte| is_lost(**byte)).count() as u64
+}
+
+fn answer(over: u64, batches: u64, first: Option<usize>) -> EffectiveLoss {
+    EffectiveLoss {
+        over,
+        batches,
+        index: (over * 65_535 / batches) as u16,
+        first,
+    }
+}
+
+#[cfg(test)]
+mod tests;
