@@ -10,5 +10,6 @@ pub mod compose;
 pub mod effective;
 pub mod packet;
 pub mod refusal;
+pub mod resend;
 pub mod tally;
 pub mod trace;
