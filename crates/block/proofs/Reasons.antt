@@ -17,18 +17,18 @@ use Rattle.block.specs.Layouts.{flagIn}
 use Rattle.block.specs.Reading.{flagGood, rateGood, summaryFault, sized, summaryReason, reasoned, readMeasurement, readLoss, readDiscard, readEffective, readStreams, readBlock}
 use Rattle.block.specs.Laws.{Never-unmeasured}
 
--- an answer that is not D4
-abbrev Own : BlockRead → Type 0
-Own answer = answer ≡ Dropped unmeasured → ⊥
+-- an answer whose reason, where it has one, comes before D4
+abbrev pub Own : BlockRead → Type 0
+Own answer = (reason : ℕ) → answer ≡ Dropped reason → reason < unmeasured
 
 own-typed : (b : Block) → Own (Typed b)
-own-typed b h = let z : _≡_ {A = ℕ} 0 1 = cc in omega arith
+own-typed b reason h = let z : _≡_ {A = ℕ} 0 1 = cc in absurd (omega arith)
 
 own-unknown : Own Unknown
-own-unknown h = let z : _≡_ {A = ℕ} 0 1 = cc in omega arith
+own-unknown reason h = let z : _≡_ {A = ℕ} 0 1 = cc in absurd (omega arith)
 
 own-dropped : (reason : ℕ) → reason < unmeasured → Own (Dropped reason)
-own-dropped reason small h = let same : reason ≡ unmeasured = cc in omega arith
+own-dropped reason small r h = let same : reason ≡ r = cc in omega arith
 
 own-cond : (t : Bool) (a b : BlockRead) → Own a → Own b → Own (cond t a b)
 own-cond true a b p q = p
@@ -63,11 +63,14 @@ own-summary size specific body b =
     let reason : ℕ = summaryReason size specific body in
     own-unless (eqb reason 0) (Dropped reason) (Typed b) (own-dropped reason (reason-small size specific body)) (own-typed b)
 
-pub never-unmeasured : Never-unmeasured
+pub own-reason : (type specific : ℕ) (body : List ℕ) → Own (readBlock type specific body)
 unfolding readBlock readMeasurement readLoss readDiscard readEffective readStreams
-never-unmeasured type specific body =
+own-reason type specific body =
     own-cond (eqb type measurementType) _ _ (own-sized measurementWords body _ (own-typed _))
     (own-cond (eqb type lossType) _ _ (own-summary (4 * lossWords) specific body _)
     (own-cond (eqb type discardType) _ _ (own-summary (4 * discardWords) specific body _)
     (own-cond (eqb type effectiveType) _ _ (own-sized effectiveWords body _ (own-typed _))
     (own-cond (eqb type streamsType) _ _ (own-sized streamsWords body _ (own-typed _)) own-unknown))))
+
+pub never-unmeasured : Never-unmeasured
+never-unmeasured type specific body h = let small = own-reason type specific body unmeasured h in omega arith

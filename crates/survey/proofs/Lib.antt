@@ -1,7 +1,9 @@
-pub mod Sorting
+pub mod Members
 pub mod Searching
 pub mod Alone
-pub mod Gathering
 pub mod Verdict
+pub mod Marking
+pub mod Settling
+pub mod Spreading
 pub mod Listing
 pub mod Reserved

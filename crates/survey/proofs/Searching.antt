@@ -1,80 +1,87 @@
--- Search by halves in a sorted table: the invariant and its end. Assumes nothing.
-use Prim.Native.Nat.{ℕ, zero, suc, _+_, _<_, _≤_}
-use mathlib.Core.Path.{_≡_, refl, sym, _∙_}
-use mathlib.Core.Bool.{Bool, true, false, _||_}
-use mathlib.Core.List.{List, [], _∷_}
+-- Search by halves in a sorted table: the invariant, one turn and the end. Assumes nothing.
+use Prim.Native.Nat.{ℕ, _+_, _-_, _*_, _/_, _<_, _≤_}
+use mathlib.Core.Path.{_≡_, refl, sym, ap, _∙_}
+use mathlib.Core.Bool.{Bool, true, false, cond}
+use mathlib.Core.List.{List, []}
 use native.Mathlib.Omega.{arith}
-use native.Mathlib.Decide.{decLt}
-use borrow.Author.Tests.{eq-eqb, ne-eqb}
-use lib.Dec.{eqb}
+use native.Mathlib.Nat.{mul-one, mul-zero}
+use native.Mathlib.Decide.{decLt, decLe, ℕ-discrete}
+use borrow.Author.Tests.{eq-eqb, ne-eqb, le-leb, lt-leb}
+use lib.Dec.{eqb, leb}
 use lib.ListN.{length, getD}
-use Rattle.survey.specs.Sources.{member, Sorted}
+use Rattle.sorting.specs.Order.{Sorted}
+use Rattle.survey.specs.Sources.{member}
+use Rattle.survey.proofs.Members.{nowhere, somewhere}
 
--- everything before low is below x, and everything from high on is not
-pub record Halves (table : List ℕ) (x low high : ℕ) : Type 0 where
-  pub order : low ≤ high
-  pub within : high ≤ length table
-  pub below : (i : ℕ) → i < low → getD table i 0 < x
-  pub above : (i : ℕ) → high ≤ i → i < length table → x ≤ getD table i 0
+-- x, if it stands anywhere, stands among the size numbers from low on
+pub record Halves (table : List ℕ) (x low size : ℕ) : Type 0 where
+  pub some : 0 < size
+  pub within : low + size ≤ length table
+  pub below : 0 < low → getD table low 0 ≤ x
+  pub above : (i : ℕ) → low + size ≤ i → i < length table → x < getD table i 0
 
-pub halves-all : (table : List ℕ) (x : ℕ) → Halves table x 0 (length table)
-halves-all table x =
-    record { order = omega arith; within = omega arith; below = λ i h. absurd (omega arith); above = λ i h l. absurd (omega arith) }
+pub halves-all : (table : List ℕ) (x : ℕ) → 0 < length table → Halves table x 0 (length table)
+halves-all table x h = record { some = h; within = omega arith; below = λ l. absurd (omega arith); above = λ i g l. absurd (omega arith) }
 
-pub halves-right : (table : List ℕ) (x low high m : ℕ) → Sorted table → Halves table x low high → m < high → getD table m 0 < x → Halves table x (m + 1) high
-halves-right table x low high m sorted h l lt =
-    record {
-      order = omega arith;
-      within = h .within;
-      below = λ i b. let w = h .within in let le = sorted i m (omega arith) (omega arith) in omega arith;
-      above = h .above;
-    }
+at-most : (t : Bool) (n : ℕ) → cond t n 0 ≤ n
+at-most true n = omega arith
+at-most false n = omega arith
 
-pub halves-left : (table : List ℕ) (x low high m : ℕ) → Sorted table → Halves table x low high → low ≤ m → m < high → x ≤ getD table m 0 → Halves table x low m
-halves-left table x low high m sorted h g l ge =
-    record {
-      order = g;
-      within = let w = h .within in omega arith;
-      below = h .below;
-      above = λ i a b. let le = sorted m i a b in omega arith;
-    }
-
--- membership by positions
-nowhere : (table : List ℕ) (x : ℕ) → ((i : ℕ) → i < length table → getD table i 0 ≡ x → ⊥) → member x table ≡ false
-unfolding member
-nowhere [] x h = refl
-nowhere (y ∷ ys) x h = rw (ne-eqb y x (h 0 (omega arith)), nowhere ys x (λ i l. h (suc i) (omega arith)))
-
-pub somewhere : (table : List ℕ) (x i : ℕ) → i < length table → getD table i 0 ≡ x → member x table ≡ true
-unfolding member
-somewhere [] x i l e = absurd (omega arith)
-somewhere (y ∷ ys) x zero l e = rw (eq-eqb y x e)
-somewhere (y ∷ ys) x (suc i) l e = rw (somewhere ys x i (omega arith) e) (right (eqb y x))
+-- one turn goes on in the upper half or in the lower
+pub halves-on : (table : List ℕ) (x low size step : ℕ) → Sorted table → Halves table x low size → 1 < size →
+    step ≡ cond (leb (getD table (low + size / 2) 0) x) (size / 2) 0 → Halves table x (low + step) (size - size / 2)
+halves-on table x low size step sorted h more is = go (decLe (getD table (low + size / 2) 0) x)
   where
-    right : (b : Bool) → (b || true) ≡ true
-    right true = refl
-    right false = refl
+    go : Dec (getD table (low + size / 2) 0 ≤ x) → Halves table x (low + step) (size - size / 2)
+    go (yes le) =
+        let up : step ≡ size / 2 = is ∙ rw (le-leb (getD table (low + size / 2) 0) x le) in
+        let within = h .within in
+        rw up (record { some = omega arith; within = omega arith; below = λ l. le; above = λ i g l. h .above i (omega arith) l })
+    go (no gt) =
+        let down : step ≡ 0 = is ∙ rw (lt-leb (getD table (low + size / 2) 0) x (omega arith)) in
+        let same : low + 0 ≡ low = omega arith in
+        let within = h .within in
+        rw (down, same) (record {
+          some = omega arith;
+          within = omega arith;
+          below = h .below;
+          above = λ i g l. let order = sorted (low + size / 2) i (omega arith) l in omega arith;
+        })
 
--- the halves have met
-pub met-end : (table : List ℕ) (x low : ℕ) → Halves table x low low → low ≡ length table → false ≡ member x table
-met-end table x low h e = sym (nowhere table x (λ i l same. let b = h .below i (omega arith) in omega arith))
+pub halves-step : (table : List ℕ) (x low size step : ℕ) → step ≡ cond (leb (getD table (low + size / 2) 0) x) (size / 2) 0 → step ≤ size / 2
+halves-step table x low size step is = rw is (at-most (leb (getD table (low + size / 2) 0) x) (size / 2))
 
-pub met-inside : (table : List ℕ) (x low : ℕ) → Sorted table → Halves table x low low → low < length table → eqb (getD table low 0) x ≡ member x table
-met-inside table x low sorted h l = go (native.Mathlib.Decide.ℕ-discrete (getD table low 0) x)
+-- one number is left
+pub halves-end : (table : List ℕ) (x low size : ℕ) → Sorted table → Halves table x low size → size ≤ 1 → eqb (getD table low 0) x ≡ member x table
+halves-end table x low size sorted h one = go (ℕ-discrete (getD table low 0) x)
   where
-    here : x ≤ getD table low 0
-    here = h .above low (omega arith) l
+    inside : low < length table
+    inside = let some = h .some in let within = h .within in omega arith
+
+    apart : (getD table low 0 ≡ x → ⊥) → (i : ℕ) → i < length table → getD table i 0 ≡ x → Dec (i < low) → Dec (i ≡ low) → ⊥
+    apart ne i l e (yes before) d =
+        let order = sorted i low (omega arith) inside in
+        let below = h .below (omega arith) in
+        ne (omega arith)
+    apart ne i l e (no after) (yes here) = ne (ap (λ (n : ℕ). getD table n 0) (sym here) ∙ e)
+    apart ne i l e (no after) (no other) = let above = h .above i (omega arith) l in omega arith
 
     go : Dec (getD table low 0 ≡ x) → eqb (getD table low 0) x ≡ member x table
-    go (yes e) = eq-eqb (getD table low 0) x e ∙ sym (somewhere table x low l e)
-    go (no ne) = ne-eqb (getD table low 0) x ne ∙ sym (nowhere table x (λ i li same. apart i li same (decLt i low)))
-      where
-        apart : (i : ℕ) → i < length table → getD table i 0 ≡ x → Dec (i < low) → ⊥
-        apart i li same (yes lt) = let b = h .below i lt in omega arith
-        apart i li same (no ge) = let s = sorted low i (omega arith) li in let a = here in ne (omega arith)
+    go (yes e) = eq-eqb (getD table low 0) x e ∙ sym (somewhere table x low inside e)
+    go (no ne) = ne-eqb (getD table low 0) x ne ∙ sym (nowhere table x (λ i l e. apart ne i l e (decLt i low) (ℕ-discrete i low)))
 
-pub met : (table : List ℕ) (x low high : ℕ) → Halves table x low high → high ≤ low → Halves table x low low
-met table x low high h le =
-    let o = h .order in
-    let e : high ≡ low = omega arith in
-    rw e at h
+-- an empty table
+pub none-held : (table : List ℕ) (x : ℕ) → length table ≡ 0 → false ≡ member x table
+none-held table x e = sym (nowhere table x (λ i l same. omega arith))
+
+-- the carry of a difference is a comparison
+module _ (y x n : ℕ) (y-fits : y < 4294967296) (x-fits : x < 4294967296) where
+  pub carried : n * ((x + 4294967296 - y) / 4294967296) ≡ cond (leb y x) n 0
+  carried = go (decLe y x)
+    where
+      go : Dec (y ≤ x) → n * ((x + 4294967296 - y) / 4294967296) ≡ cond (leb y x) n 0
+      go (yes le) = let one : (x + 4294967296 - y) / 4294967296 ≡ 1 = omega arith in rw (one, le-leb y x le, mul-one)
+      go (no gt) = let none : (x + 4294967296 - y) / 4294967296 ≡ 0 = omega arith in rw (none, lt-leb y x (omega arith), mul-zero)
+
+  pub carried-most : n * ((x + 4294967296 - y) / 4294967296) ≤ n
+  carried-most = rw carried (at-most (leb y x) n)

@@ -1,9 +1,9 @@
--- The verdict of a block among the blocks of its packet, from its verdict by itself, its type and the table of
--- sources. Assumes nothing.
-use Prim.Native.Nat.{ℕ, _+_, _*_, _≤_}
+-- The verdict of a block among the blocks of its packet, from its verdict by itself, its type and whether its source
+-- is measured; and from its verdict where nothing is measured. Assumes nothing.
+use Prim.Native.Nat.{ℕ, _+_, _*_, _<_, _≤_}
 use mathlib.Core.Path.{_≡_, refl, sym, ap, _∙_}
 use mathlib.Core.Bool.{Bool, true, false, cond, _||_}
-use mathlib.Core.List.{List}
+use mathlib.Core.List.{List, []}
 use native.Mathlib.Omega.{arith}
 use native.Mathlib.Decide.{ℕ-discrete}
 use borrow.Author.Tests.{ne-eqb, eqb-true, eqb-false}
@@ -16,17 +16,20 @@ use Rattle.block.specs.Types.{measurementType, lossType, discardType, effective
 use Rattle.block.specs.Layouts.{lossIn, discardIn}
 use Rattle.block.specs.Reading.{summaryReason, reasoned, readMeasurement, readLoss, readDiscard, readEffective, readStreams, readBlock, needsOf}
 use Rattle.block.proofs.Cases.{reason-size}
+use Rattle.block.proofs.Reasons.{Own, own-reason}
 use Rattle.block.specs.declared.Block.{Block}
 use Rattle.block.specs.declared.Block.the-variants.{Loss, Discard}
 use Rattle.block.specs.declared.BlockRead.{BlockRead}
 use Rattle.block.specs.declared.BlockRead.the-variants.{Typed, Unknown, Dropped}
+use Rattle.block.specs.declared.Needs.{Needs}
 use Rattle.block.specs.declared.Needs.the-variants.{Nothing, MeasurementOf}
 use Rattle.frame.specs.Frames.{Entry, bodyLength, entryAt}
-use Rattle.packet.specs.Blocks.{measured, judged, readIn}
+use Rattle.packet.specs.Blocks.{measured, given, judged, readIn}
 use Rattle.packet.specs.Steps.{Inside}
 use Rattle.packet.proofs.Measuring.{body-length, body-is, be32-body}
-use Rattle.packet.proofs.Judging.{has-measurement, lacks-measurement}
+use Rattle.packet.proofs.Judging.{has-measurement, lacks-measurement, unmeasured-exactly}
 use Rattle.survey.specs.Survey.{verdictOf}
+use Rattle.survey.specs.Packed.{verdicts}
 use Rattle.survey.specs.Alone.{isSummary}
 
 -- a block that is not typed stays as it is
@@ -111,3 +114,58 @@ module _ (s : List ℕ) (at : ℕ) (i : Inside s at) (es : List Entry) (v : ℕ)
   unmeasured-summary z n m =
       let sum = summary-of (entryAt s at .kind) (entryAt s at .specific) (entryAt s at .body) n (sym alone ∙ z) in
       ap verdictOf (lacks-measurement es _ (sum .block) (be32 (entryAt s at .body) 0) (sum .typed) (sum .needs) (rw (source (sum .size)) m))
+
+-- every verdict fits a packed number
+pub verdict-small : (es : List Entry) (e : Entry) → verdictOf (readIn es e) < verdicts
+unfolding readIn
+verdict-small es e = go (readBlock (e .kind) (e .specific) (e .body)) (own-reason (e .kind) (e .specific) (e .body))
+  where
+    by-measured : (b : Block) (m : Bool) → verdictOf (unless m (Dropped unmeasured) (Typed b)) < verdicts
+    by-measured b true = omega arith
+    by-measured b false = omega arith
+
+    by-need : (b : Block) (needs : Needs) → verdictOf (given es needs (Typed b)) < verdicts
+    by-need b Nothing = omega arith
+    by-need b (MeasurementOf source) = by-measured b (measured source es)
+
+    go : (own : BlockRead) → Own own → verdictOf (judged es own) < verdicts
+    go (Typed b) o = by-need b (needsOf b)
+    go Unknown o = omega arith
+    go (Dropped reason) o = let small = o reason refl in omega arith
+
+-- a block that is not D4 where nothing is measured is as it is
+pub settled : (es : List Entry) (e : Entry) → (verdictOf (readIn [] e) ≡ unmeasured → ⊥) → verdictOf (readIn es e) ≡ verdictOf (readIn [] e)
+unfolding readIn measured
+settled es e h = go (readBlock (e .kind) (e .specific) (e .body)) h
+  where
+    by-need : (b : Block) (needs : Needs) → (verdictOf (given [] needs (Typed b)) ≡ unmeasured → ⊥) → verdictOf (given es needs (Typed b)) ≡ verdictOf (given [] needs (Typed b))
+    by-need b Nothing n = refl
+    by-need b (MeasurementOf source) n = absurd (n refl)
+
+    go : (own : BlockRead) → (verdictOf (judged [] own) ≡ unmeasured → ⊥) → verdictOf (judged es own) ≡ verdictOf (judged [] own)
+    go (Typed b) n = by-need b (needsOf b) n
+    go Unknown n = refl
+    go (Dropped reason) n = refl
+
+-- a block that is D4 there is D4 where its source is not measured, and otherwise typed
+dropped-so : (answer : BlockRead) → verdictOf answer ≡ unmeasured → answer ≡ Dropped unmeasured
+dropped-so (Typed b) h = absurd (omega arith)
+dropped-so Unknown h = absurd (omega arith)
+dropped-so (Dropped reason) h = ap Dropped h
+
+module _ (s : List ℕ) (at : ℕ) (i : Inside s at) (w : verdictOf (readIn [] (entryAt s at)) ≡ unmeasured) where
+  typed-so : 0 ≡ verdictOf (readBlock (entryAt s at .kind) (entryAt s at .specific) (entryAt s at .body))
+  typed-so = sym (ap verdictOf (unmeasured-exactly [] (entryAt s at) .0 (dropped-so (readIn [] (entryAt s at)) w) .typed))
+
+  summary-so : isSummary (entryAt s at .kind) ≡ true
+  summary-so = go (isSummary (entryAt s at .kind)) refl
+    where
+      go : (t : Bool) → isSummary (entryAt s at .kind) ≡ t → isSummary (entryAt s at .kind) ≡ true
+      go true e = e
+      go false e = let z = other s at i [] 0 typed-so refl e in absurd (omega arith)
+
+  pub found : (es : List Entry) → measured (u32At s (at + 4)) es ≡ true → 0 ≡ verdictOf (readIn es (entryAt s at))
+  found es m = measured-summary s at i es 0 typed-so refl summary-so m
+
+  pub missed : (es : List Entry) → measured (u32At s (at + 4)) es ≡ false → unmeasured ≡ verdictOf (readIn es (entryAt s at))
+  missed es m = unmeasured-summary s at i es 0 typed-so refl summary-so m

@@ -1,4 +1,5 @@
 pub mod Survey
 pub mod Sources
+pub mod Packed
 pub mod Alone
 pub mod Laws

@@ -1,21 +1,28 @@
-// All blocks of a packet in one pass: for each its place and its verdict. The sources of the measurement
-// blocks are gathered first, sorted, so that the verdict of a block 17 or 18 looks its source up and does not
-// walk the packet again.
+// All blocks of a packet at once: for each its place and its verdict. D4 asks whether a source is measured anywhere
+// in the packet, so the sources of the measurement blocks are sorted into a table and looked up by halves. The lent
+// list is the only room: while it is filled, its first half holds the table, and its second half one number for each
+// block, place and verdict packed.
 use block::Measures;
-use frame::Header;
+use packet::Opened;
 use refusal::Written;
 ghost use mathlib.Core.Path.{_≡_};
-ghost use mathlib.Core.List.{_++_};
-ghost use Prim.Native.Nat.{_+_, _*_, _<_, _≤_};
+ghost use mathlib.Core.Bool.{cond, _&&_};
+ghost use mathlib.Core.List.{[], _++_};
+ghost use Prim.Native.Nat.{_+_, _*_, _/_, _%_, _<_, _≤_};
+ghost use lib.Dec.{eqb, leb};
 ghost use lib.ListN.{length, take, drop};
 ghost use Rattle.refusal.specs.Answer.{after};
+ghost use Rattle.sorting.specs.Order.{Sorted};
+ghost use Rattle.wire.specs.BigEndian.{u32At};
+ghost use Rattle.block.specs.Types.{unmeasured};
 ghost use Rattle.block.specs.Reading.{readBlock};
 ghost use Rattle.frame.specs.Frames.{nextAt, entryAt};
 ghost use Rattle.frame.specs.Packet.{packetOf};
-ghost use Rattle.packet.specs.Blocks.{readIn};
+ghost use Rattle.packet.specs.Blocks.{measured, readIn};
 ghost use Rattle.packet.specs.Steps.{Inside, blocksOf};
-ghost use Rattle.survey.specs.Survey.{verdictOf, listing, listOf, listAnswer};
-ghost use Rattle.survey.specs.Sources.{member, Sorted, Inserted, Grown, Table, Fillable, Listable, ScannedAs};
+ghost use Rattle.survey.specs.Survey.{verdictOf, listOf, listAnswer};
+ghost use Rattle.survey.specs.Sources.{member, Grown, Table};
+ghost use Rattle.survey.specs.Packed.{verdicts, packing, spreadOf, Room, Marked, Settleable};
 ghost use Rattle.survey.specs.Alone.{sizeVerdict, isSummary};
 
 // The verdicts besides the reasons to drop a block.
@@ -23,70 +30,52 @@ pub const TYPED: u8 = 0;
 
 pub const UNKNOWN: u8 = 255;
 
-// A measurement block takes 32 bytes, so packets of these lengths have at most 8 and 64 of them.
-const TINY: usize = 256;
+// A packed block is its place times this, plus its verdict. Places are below 262,144.
+const VERDICTS: u32 = 256;
 
-const SHORT: usize = 2048;
-
-// Fills out with two numbers for each block, its place and its verdict. A short packet costs no large table.
+// Fills out with two numbers for each block, its place and its verdict.
 pub fn list(packet: &[u8], out: &mut [u32]) -> Written
     ensures answer { λ r. ⌜ r ≡ listAnswer (packetOf (now (packet .entry))) (now (out .entry)) ⌝ }
     ensures buffer { λ r. ⌜ now (out .exit) ≡ after (listAnswer (packetOf (now (packet .entry))) (now (out .entry))) (listOf (packetOf (now (packet .entry)))) (now (out .entry)) ⌝ }
 {
-    match frame::read_header(packet) {
-        Header::Sender(_) => {
-            if packet.len() <= TINY {
-                let mut sources = [0u32; 8];
-                return list_with(packet, out, &mut sources);
-            }
-            if packet.len() <= SHORT {
-                let mut sources = [0u32; 64];
-                return list_with(packet, out, &mut sources);
-            }
-            let mut sources = [0u32; 8192];
-            list_with(packet, out, &mut sources)
-        }
-        Header::Refused(r) => Written::Refused(r),
-    }
-}
-
-// The same, once the header is good and there is a table with room for every source.
-fn list_with(s: &[u8], out: &mut [u32], sources: &mut [u32]) -> Written
-    requires { ⌜ Listable (now s) (now sources) ⌝ }
-    ensures answer { λ r. ⌜ r ≡ listAnswer (packetOf (now (s .entry))) (now (out .entry)) ⌝ }
-    ensures buffer { λ r. ⌜ now (out .exit) ≡ after (listAnswer (packetOf (now (s .entry))) (now (out .entry))) (listOf (packetOf (now (s .entry)))) (now (out .entry)) ⌝ }
-{
-    match scan(s, sources) {
-        Scanned::Blocks(count, k) => {
+    match packet::open(packet, 0) {
+        Opened::Blocks(_, count, _) => {
             if out.len() / 2 < count {
                 return Written::Refused(refusal::BUFFER_SHORT);
             }
-            fill(s, out, sources, k);
+            let k = mark(packet, out, count);
+            sorting::sort(&mut out[..k]);
+            settle(packet, out, count, k);
+            spread(out, count);
             Written::Size(2 * count)
         }
-        Scanned::Past(at) => Written::Refused(refusal::block_past_end(at)),
+        Opened::Refused(r) => Written::Refused(r),
     }
 }
 
-fn fill(s: &[u8], out: &mut [u32], sources: &[u32], k: usize)
-    requires { ⌜ Fillable (now s) (now out) × Table (now s) (now sources) k ⌝ }
-    ensures { λ r. ⌜ now (out .exit) ≡ listing (blocksOf (now (s .entry))) (blocksOf (now (s .entry))) ++ drop (2 * length (blocksOf (now (s .entry)))) (now (out .entry)) ⌝ }
+// Walks the blocks: entry count + i takes block i, judged as if nothing were measured, and the first entries
+// take the sources that are measured, as they come. Answers how many these are.
+fn mark(s: &[u8], out: &mut [u32], count: usize) -> usize
+    requires { ⌜ Room (now s) (now out) count ⌝ }
+    ensures { λ k. ⌜ Marked (now (s .entry)) (now (out .entry)) (now (out .exit)) count k ⌝ }
 {
     let mut at = frame::FIRST_BLOCK;
-    let mut i = 0;
+    let mut i = count;
+    let mut k = 0;
     while at < s.len() {
         let next = frame::next_block(s, at);
-        out[i] = at as u32;
-        out[i + 1] = verdict_at(s, at, next, sources, k) as u32;
+        out[i] = at as u32 * VERDICTS + verdict_unmeasured(s, at, next) as u32;
+        k = gather_at(s, at, next, out, k);
         at = next;
-        i += 2;
+        i += 1;
     }
+    k
 }
 
-// The verdict of the block from offset at to end, among the blocks of its packet.
-fn verdict_at(s: &[u8], at: usize, end: usize, sources: &[u32], k: usize) -> u8
-    requires { ⌜ Inside (now s) at × (end ≡ nextAt (now s) at) × Table (now s) (now sources) k ⌝ }
-    ensures { λ r. ⌜ r ≡ verdictOf (readIn (blocksOf (now (s .entry))) (entryAt (now (s .entry)) at)) ⌝ }
+// The verdict of the block from offset at to end, in a packet that measures nothing.
+fn verdict_unmeasured(s: &[u8], at: usize, end: usize) -> u8
+    requires { ⌜ Inside (now s) at × (end ≡ nextAt (now s) at) ⌝ }
+    ensures { λ r. ⌜ r ≡ verdictOf (readIn [] (entryAt (now (s .entry)) at)) ⌝ }
 {
     let start = at + 4;
     let kind = s[at];
@@ -95,9 +84,6 @@ fn verdict_at(s: &[u8], at: usize, end: usize, sources: &[u32], k: usize) -> u8
         return alone;
     }
     if !is_summary(kind) {
-        return TYPED;
-    }
-    if has(&sources[..k], wire::u32_at(s, start)) {
         return TYPED;
     }
     block::UNMEASURED
@@ -133,84 +119,84 @@ fn is_summary(kind: u8) -> bool
     (kind == block::LOSS) | (kind == block::DISCARD)
 }
 
-// Whether x stands in a sorted table: a search by halves.
-fn has(table: &[u32], x: u32) -> bool
-    requires { ⌜ Sorted (now table) ⌝ }
-    ensures { λ r. ⌜ r ≡ member x (now (table .entry)) ⌝ }
-{
-    let mut low = 0;
-    let mut high = table.len();
-    while low < high {
-        let middle = low + (high - low) / 2;
-        if table[middle] < x {
-            low = middle + 1;
-        } else {
-            high = middle;
-        }
-    }
-    if low == table.len() {
-        return false;
-    }
-    table[low] == x
-}
-
-// What a walk over all blocks finds: how many they are and how many sources they measure, or the place of a
-// block that runs past the end.
-enum Scanned {
-    Blocks(usize, usize),
-    Past(usize),
-}
-
-// Walks all blocks and sorts the sources that they measure into the front of table.
-fn scan(s: &[u8], table: &mut [u32]) -> Scanned
-    requires { ⌜ length (now s) ≤ 32 * length (now table) ⌝ }
-    ensures found { λ r. ⌜ ScannedAs (now (s .entry)) (now (table .exit)) r ⌝ }
-    ensures kept { λ r. ⌜ length (now (table .exit)) ≡ length (now (table .entry)) ⌝ }
-{
-    let mut at = frame::FIRST_BLOCK;
-    let mut count = 0;
-    let mut k = 0;
-    while at < s.len() {
-        let next = frame::next_block(s, at);
-        if s.len() < next {
-            return Scanned::Past(at);
-        }
-        k = gather_at(s, at, next, table, k);
-        at = next;
-        count += 1;
-    }
-    Scanned::Blocks(count, k)
-}
-
-// The source of the block from offset at to end put into the table's first k, where it measures one.
+// The source of the block from offset at to end, where it measures one, put behind the table's first k.
 fn gather_at(s: &[u8], at: usize, end: usize, table: &mut [u32], k: usize) -> usize
-    requires { ⌜ Inside (now s) at × (end ≡ nextAt (now s) at) × (k < length (now table)) × Sorted (take k (now table)) ⌝ }
-    ensures { λ r. ⌜ Grown (now (s .entry)) at (now (table .entry)) (now (table .exit)) k r ⌝ }
+    requires { ⌜ Inside (now s) at × (end ≡ nextAt (now s) at) × (k < length (now table)) ⌝ }
+    ensures { λ r. ⌜ Grown (entryAt (now (s .entry)) at) (now (table .entry)) (now (table .exit)) k r ⌝ }
 {
     let start = at + 4;
     match block::measured_by(s[at], &s[start..end]) {
         Measures::Source(source) => {
-            insert(table, k, source);
+            table[k] = source;
             k + 1
         }
         Measures::Nothing => k,
     }
 }
 
-// Puts x among the first k numbers of table, which are sorted.
-fn insert(table: &mut [u32], k: usize, x: u32)
-    requires { ⌜ (k < length (now table)) × Sorted (take k (now table)) ⌝ }
-    ensures { λ r. ⌜ Inserted (now (table .entry)) (now (table .exit)) k x ⌝ }
+// Takes D4 back from each packed block whose source is in the table, the first k entries.
+fn settle(s: &[u8], out: &mut [u32], count: usize, k: usize)
+    requires { ⌜ Settleable (now s) (now out) count k ⌝ }
+    ensures { λ r. ⌜ drop count (now (out .exit)) ≡ packing (blocksOf (now (s .entry))) (blocksOf (now (s .entry))) ++ drop (2 * count) (now (out .entry)) ⌝ }
 {
-    let mut i = k;
-    while 0 < i {
-        let y = table[i - 1];
-        if y <= x {
-            table[i] = x;
-            return;
+    let mut i = count;
+    while i < 2 * count {
+        let packed = out[i];
+        if is_measured(s, out, k, packed) {
+            out[i] = packed - block::UNMEASURED as u32;
         }
-        table[i] = y;
-        i -= 1;
+        i += 1;
     }
-    table[0] = x;
+}
+
+// Whether a packed block waits for a measurement, and has it.
+fn is_measured(s: &[u8], table: &[u32], k: usize, packed: u32) -> bool
+    requires { ⌜ Table (now s) (now table) k ⌝ }
+    ensures { λ r. ⌜ r ≡ (eqb (packed % verdicts) unmeasured && measured (u32At (now (s .entry)) (packed / verdicts + 4)) (blocksOf (now (s .entry)))) ⌝ }
+{
+    if packed % VERDICTS != block::UNMEASURED as u32 {
+        return false;
+    }
+    let start = (packed / VERDICTS) as usize + 4;
+    has(&table[..k], wire::u32_at(s, start))
+}
+
+// Whether x stands in a sorted table: a search by halves, in which no branch depends on what the table holds.
+fn has(table: &[u32], x: u32) -> bool
+    requires { ⌜ Sorted (now table) ⌝ }
+    ensures { λ r. ⌜ r ≡ member x (now (table .entry)) ⌝ }
+{
+    if table.len() == 0 {
+        return false;
+    }
+    let mut low = 0;
+    let mut size = table.len();
+    while 1 < size {
+        let half = size / 2;
+        low += if_at_most(table[low + half], x, half);
+        size -= half;
+    }
+    table[low] == x
+}
+
+// n where y is at most x, and 0 where not, without a branch: the carry of x + 2 ^ 32 - y counts n or nothing.
+fn if_at_most(y: u32, x: u32, n: usize) -> usize
+    ensures { λ r. ⌜ r ≡ cond (leb y x) n 0 ⌝ }
+{
+    let carry = (x as u64 + 4_294_967_296 - y as u64) / 4_294_967_296;
+    n * carry as usize
+}
+
+// Takes the packed blocks apart, from the front: entry 2 i + 1 is never past entry count + i, which was read.
+fn spread(out: &mut [u32], count: usize)
+    requires { ⌜ 2 * count ≤ length (now out) ⌝ }
+    ensures { λ r. ⌜ now (out .exit) ≡ spreadOf (take count (drop count (now (out .entry)))) ++ drop (2 * count) (now (out .entry)) ⌝ }
+{
+    let mut i = 0;
+    while i < count {
+        let packed = out[count + i];
+        out[2 * i] = packed / VERDICTS;
+        out[2 * i + 1] = packed % VERDICTS;
+        i += 1;
+    }
 }

@@ -6,7 +6,7 @@ use native.Mathlib.Omega.{arith}
 use lib.ListN.{getD, take, drop}
 use Rattle.block.specs.Reading.{measuredBy}
 use Rattle.frame.specs.Frames.{bodyLength, entryAt}
-use Rattle.survey.proofs.Gathering.{grown, kept}
+use Rattle.survey.proofs.Members.{grown, kept}
 use borrow.Author.Needs.{needs}
 use Rattle.survey.proofs.gather_at.Statement.{statement}
 use Rattle.survey.proofs.gather_at.Tie as tie
@@ -43,8 +43,11 @@ told c =
 enum-known-source : tie.Need-enum-known-source
 enum-known-source c = search needs
 
-insert-requires : tie.Need-insert-requires
-insert-requires c κs = search needs
+mul-table : tie.Need-mul-table
+mul-table c = search needs
+
+slice-write-table : tie.Need-slice-write-table
+slice-write-table c = search needs
 
 add-result : tie.Need-add-result
 add-result c = search needs
@@ -56,14 +59,10 @@ same-length : tie.Need-same-length
 same-length c = search needs
 
 returns : tie.Need-returns
-returns c =
-    let start = c .before .before .before .before .before .before .before .before .before .before .before .before in
-    grown _ _ (start .pre .0) _ _ _ _ (sym (told (c .before .before .before .before .before .before .before)) ∙ c .before .before .before .before .before .source .given .1) (c .before .before .insert .ensures)
+returns c = grown _ _ _ _ (c .before .before .before .before .before .before .before .before .pre .2) (sym (told (c .before .before .before)) ∙ c .before .source .given .1)
 
 returns-2 : tie.Need-returns-2
-returns-2 c =
-    let start = c .before .before .before .before .before .before .before in
-    kept _ _ (start .pre .0) _ _ (sym (told (c .before .before)) ∙ c .enum-told .given .1) (start .pre .3)
+returns-2 c = kept _ _ _ (sym (told (c .before .before)) ∙ c .enum-told .given .1)
 
 pub gather-at-spec : {M : Type 1} → statement M
 gather-at-spec =
@@ -76,7 +75,8 @@ gather-at-spec =
     part-measured-by-end
     measured-by-requires
     enum-known-source
-    insert-requires
+    mul-table
+    slice-write-table
     add-result
     enum-told
     same-length

@@ -1,58 +1,55 @@
 -- `survey::has` meets its contract. The loop's invariant is `Halves`. Assumes nothing.
-use Prim.Native.Nat.{_-_}
 use native.Mathlib.Omega.{arith}
-use Rattle.survey.proofs.Searching.{Halves, halves-all, halves-right, halves-left, met, met-end, met-inside}
+use Rattle.survey.proofs.Searching.{Halves, halves-all, halves-on, halves-step, halves-end, none-held}
+use borrow.Author.Needs.{needs}
 use Rattle.survey.proofs.has.Statement.{statement}
 use Rattle.survey.proofs.has.Tie as tie
 
 abbrev Inv-loop : tie.InvT-loop
-Inv-loop table x low₀ high₀ low high = Halves table x low high
+Inv-loop table x low₀ size₀ low size = Halves table x low size
 
 abbrev μ-loop : tie.MeasureT-loop
-μ-loop table x low₀ high₀ low high = high - low
+μ-loop table x low₀ size₀ low size = size
+
+returns : tie.Need-returns Inv-loop μ-loop
+returns c = none-held _ _ (omega arith)
 
 loop-holds : tie.Need-loop-holds Inv-loop μ-loop
-loop-holds c = halves-all _ _
+loop-holds c = halves-all _ _ (omega arith)
 
-sub-middle : tie.Need-sub-middle Inv-loop μ-loop
-sub-middle c = omega arith
+add-if-at-most : tie.Need-add-if-at-most Inv-loop μ-loop
+add-if-at-most c = omega arith
 
-add-middle : tie.Need-add-middle Inv-loop μ-loop
-add-middle c = omega (arith, c .before .loop .inv .within, c .before .before .good .0 .0)
+mul-if-at-most : tie.Need-mul-if-at-most Inv-loop μ-loop
+mul-if-at-most c = omega arith
 
-mul-if1 : tie.Need-mul-if1 Inv-loop μ-loop
-mul-if1 c = omega (arith, c .before .loop .inv .within, c .before .before .good .0 .1)
+shared-slice-read-if-at-most : tie.Need-shared-slice-read-if-at-most Inv-loop μ-loop
+shared-slice-read-if-at-most c = omega arith
 
-shared-slice-read-if1 : tie.Need-shared-slice-read-if1 Inv-loop μ-loop
-shared-slice-read-if1 c = omega (arith, c .before .before .loop .inv .within)
+if-at-most-requires : tie.Need-if-at-most-requires Inv-loop μ-loop
+if-at-most-requires c κs = omega arith
 
 add-low : tie.Need-add-low Inv-loop μ-loop
-add-low c = omega (arith, c .before .before .before .loop .inv .within, c .before .before .before .before .good .0 .0)
+add-low c =
+    omega (arith, halves-step (c .before .before .before .before .before .before .args .table .now) (c .before .before .before .before .before .before .args .x) (c .before .before .before .loop .low) (c .before .before .before .loop .size) _ (c .if-at-most .ensures))
+
+sub-size : tie.Need-sub-size Inv-loop μ-loop
+sub-size c = omega arith
 
 loop-less : tie.Need-loop-less Inv-loop μ-loop
 loop-less c = omega arith
 
 loop-again : tie.Need-loop-again Inv-loop μ-loop
-loop-again c = halves-right _ _ _ _ _ (c .before .before .before .before .pre) (c .before .before .before .loop .inv) (omega arith) (c .if1 .taken)
-
-loop-less-2 : tie.Need-loop-less-2 Inv-loop μ-loop
-loop-less-2 c = omega arith
-
-loop-again-2 : tie.Need-loop-again-2 Inv-loop μ-loop
-loop-again-2 c = halves-left _ _ _ _ _ (c .before .before .before .before .pre) (c .before .before .before .loop .inv) (omega arith) (omega arith) (c .if1 .left)
-
-returns : tie.Need-returns Inv-loop μ-loop
-returns c = met-end _ _ (c .before .before .loop .low) (met _ _ _ (c .before .before .loop .high) (c .before .before .loop .inv) (omega arith)) (c .if2 .taken)
+loop-again c = halves-on _ _ _ _ _ (c .before .before .before .before .before .before .pre) (c .before .before .before .loop .inv) (omega arith) (c .if-at-most .ensures)
 
 mul-result : tie.Need-mul-result Inv-loop μ-loop
-mul-result c = omega (arith, c .before .before .loop .inv .order, c .before .before .loop .inv .within, c .before .before .before .good .0 .1)
+mul-result c = omega arith
 
 shared-slice-read-result : tie.Need-shared-slice-read-result Inv-loop μ-loop
-shared-slice-read-result c = omega (arith, c .before .before .before .loop .inv .order, c .before .before .before .loop .inv .within)
+shared-slice-read-result c = omega arith
 
 returns-2 : tie.Need-returns-2 Inv-loop μ-loop
-returns-2 c =
-    met-inside _ _ (c .before .before .before .loop .low) (c .before .before .before .before .pre) (met _ _ _ (c .before .before .before .loop .high) (c .before .before .before .loop .inv) (omega arith)) (omega (arith, c .before .before .before .loop .inv .order, c .before .before .before .loop .inv .within))
+returns-2 c = halves-end _ _ (c .before .before .loop .low) (c .before .before .loop .size) (c .before .before .before .before .before .pre) (c .before .before .loop .inv) (omega arith)
 
 pub has-spec : {M : Type 1} → statement M
 has-spec =
@@ -60,17 +57,16 @@ has-spec =
     (tie.spec
     Inv-loop
     μ-loop
+    returns
     loop-holds
-    sub-middle
-    add-middle
-    mul-if1
-    shared-slice-read-if1
+    add-if-at-most
+    mul-if-at-most
+    shared-slice-read-if-at-most
+    if-at-most-requires
     add-low
+    sub-size
     loop-less
     loop-again
-    loop-less-2
-    loop-again-2
-    returns
     mul-result
     shared-slice-read-result
     returns-2)

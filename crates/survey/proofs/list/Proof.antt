@@ -1,91 +1,90 @@
--- `survey::list` meets its contract: the header, then a table with room for every source. Assumes nothing.
-use Prim.Native.Nat.{ℕ, _*_, _≤_}
-use mathlib.Core.Path.{sym, _∙_}
-use mathlib.Core.List.{List}
+-- `survey::list` meets its contract: the packet opened, the room tested, then mark, sort, settle and spread. Assumes
+-- nothing.
+use mathlib.Core.Path.{sym, ap, _∙_}
+use mathlib.Core.List.{List, _++_}
+use Prim.Native.Nat.{ℕ}
 use native.Mathlib.Omega.{arith}
-use lib.ListN.{length}
+use lib.Seq.{length-take-le}
 use Rattle.frame.proofs.FirstBytes.{sent-short}
-use Rattle.survey.specs.Sources.{Listable}
-use Rattle.survey.proofs.Listing.{list-refused}
+use Rattle.packet.specs.Steps.{blocksOf}
+use Rattle.packet.proofs.Opening.{Open, opened, opened-bad}
+use Rattle.survey.specs.Packed.{packing, Room}
+use Rattle.survey.proofs.Listing.{list-refused, list-short, list-room, list-done, marked-fits, past-sorted, sorted-table, spread-all}
 use borrow.Author.Needs.{needs}
 use Rattle.survey.proofs.list.Statement.{statement}
 use Rattle.survey.proofs.list.Tie as tie
 
-read-header-requires : tie.Need-read-header-requires
-read-header-requires c κs = search needs
+open-requires : tie.Need-open-requires
+open-requires c κs = search needs
 
-enum-told : tie.Need-enum-told
-enum-told c = search needs
+enum-known-count : tie.Need-enum-known-count
+enum-known-count c = search needs
 
--- once the header is good, any table with room for every source will do
-short : (c : tie.After-enum-told) → length (c .before .before .before .before .before .args .packet .now) ≤ 262144
-short c =
-    sent-short _ _ (sym (c .before .before .read-header .ensures) ∙ c .enum-told .given .1)
-    (omega (arith, c .before .before .before .before .shared-slice-known .given 2)) (omega (arith, c .before .before .before .before .shared-slice-known .given 3))
+-- what the packet has, once it was opened
+ready : (c : tie.After-known-told) → Open (c .before .before .before .before .before .before .args .packet .now) 0 (c .before .count .given .0 .0) (c .before .count .given .0 .1 .0) (c .before .count .given .0 .1 .1 .0)
+ready c = opened _ 0 _ _ _ (sym (c .before .before .before .open .ensures) ∙ c .before .count .given .1)
 
-can : (c : tie.After-enum-told) (table : List ℕ) → length (c .before .before .before .before .before .args .packet .now) ≤ 32 * length table → Listable (c .before .before .before .before .before .args .packet .now) table
-can c table h =
-    record { sender = _; header = sym (c .before .before .read-header .ensures) ∙ c .enum-told .given .1; short = short c; sources = h }
-
-slice-aggregate-list-with : tie.Need-slice-aggregate-list-with
-slice-aggregate-list-with c = search needs
-
-list-with-requires : tie.Need-list-with-requires
-list-with-requires c κs = can (c .before .before .before) _ (omega arith)
-
-same-length : tie.Need-same-length
-same-length c = search needs
+room : (c : tie.Else1) → Room (c .before .before .before .before .before .before .before .args .packet .now) (c .before .before .before .before .before .before .before .args .out .now) (c .before .before .count .given .0 .1 .0)
+room c =
+    list-room _ _ _ _ _ (ready (c .before))
+    (sent-short _ _ (ready (c .before) .header) (omega (arith, c .before .before .before .before .before .before .shared-slice-known .given 2)) (omega (arith, c .before .before .before .before .before .before .shared-slice-known .given 3)))
+    (omega (arith, c .if1 .left))
 
 returns : tie.Need-returns
-returns c = search needs
+returns c = list-short _ _ _ _ _ (ready (c .before)) (omega (arith, c .if1 .taken))
 
-slice-aggregate-list-with-2 : tie.Need-slice-aggregate-list-with-2
-slice-aggregate-list-with-2 c = search needs
+mark-requires : tie.Need-mark-requires
+mark-requires c κs = room (c .before)
 
-list-with-requires-2 : tie.Need-list-with-requires-2
-list-with-requires-2 c κs = can (c .before .before .before .before) _ (omega arith)
+slice-relend-prefix-sort : tie.Need-slice-relend-prefix-sort
+slice-relend-prefix-sort c = search needs
 
-same-length-2 : tie.Need-same-length-2
-same-length-2 c = search needs
+slice-aggregate-sort : tie.Need-slice-aggregate-sort
+slice-aggregate-sort c = sym (length-take-le _ _ (marked-fits _ _ _ _ _ (room (c .before .before .before .before .before)) (c .before .before .before .mark .kept .1 .0) (c .before .before .before .mark .ensures)))
 
-returns-2 : tie.Need-returns-2
-returns-2 c = search needs
+sort-requires : tie.Need-sort-requires
+sort-requires c κs = search needs
 
-slice-aggregate-list-with-3 : tie.Need-slice-aggregate-list-with-3
-slice-aggregate-list-with-3 c = search needs
+settle-requires : tie.Need-settle-requires
+settle-requires c κs = sorted-table _ _ _ _ _ (room (c .before .before .before .before .before .before .before .before .before)) (c .before .before .before .before .before .before .before .mark .kept .1 .0) (c .before .before .before .before .before .before .before .mark .ensures) _ (c .before .before .before .sort .ensures .0) (c .before .before .before .sort .ensures .1)
 
-list-with-requires-3 : tie.Need-list-with-requires-3
-list-with-requires-3 c κs = can (c .before .before .before .before) _ (short (c .before .before .before .before))
+spread-requires : tie.Need-spread-requires
+spread-requires c κs = search needs
+
+mul-t8 : tie.Need-mul-t8
+mul-t8 c = search needs
 
 enum-known-r : tie.Need-enum-known-r
 enum-known-r c = search needs
 
-same-length-3 : tie.Need-same-length-3
-same-length-3 c = search needs
+same-length : tie.Need-same-length
+same-length c = search needs
+
+returns-2 : tie.Need-returns-2
+returns-2 c =
+    list-done _ _ _ _ _ (ready (c .before .before .before .before .before .before .before .before .before .before .before .before .before .before .before .before .before)) _ (room (c .before .before .before .before .before .before .before .before .before .before .before .before .before .before .before .before) .fits)
+    (c .before .before .spread .ensures ∙ spread-all (c .before .before .before .before .before .before .before .before .before .before .before .before .before .before .before .before .before .before .before .before .before .before .before .args .packet .now) (c .before .before .before .before .before .before .before .before .before .before .before .before .before .before .before .before .before .before .before .before .before .before .before .args .out .now) _ _ (room (c .before .before .before .before .before .before .before .before .before .before .before .before .before .before .before .before) .counted)
+    (c .before .before .before .before .before .before .settle .ensures ∙ ap (λ (l : List ℕ). packing (blocksOf (c .before .before .before .before .before .before .before .before .before .before .before .before .before .before .before .before .before .before .before .before .before .before .before .args .packet .now)) (blocksOf (c .before .before .before .before .before .before .before .before .before .before .before .before .before .before .before .before .before .before .before .before .before .before .before .args .packet .now)) ++ l)
+    (past-sorted _ _ _ _ _ (room (c .before .before .before .before .before .before .before .before .before .before .before .before .before .before .before .before)) (c .before .before .before .before .before .before .before .before .before .before .before .before .before .before .mark .kept .1 .0) (c .before .before .before .before .before .before .before .before .before .before .before .before .before .before .mark .ensures) _ (c .before .before .before .before .before .before .before .before .before .before .sort .ensures .0) (c .before .before .before .before .before .before .before .before .before .before .sort .ensures .1))))
 
 returns-3 : tie.Need-returns-3
-returns-3 c = search needs
-
-returns-4 : tie.Need-returns-4
-returns-4 c = list-refused _ _ _ (sym (c .before .before .before .read-header .ensures) ∙ c .before .r .given .1)
+returns-3 c = list-refused _ _ _ (opened-bad _ 0 _ (sym (c .before .before .before .open .ensures) ∙ c .before .r .given .1))
 
 pub list-spec : {M : Type 1} → statement M
 list-spec =
     tie.close
     (tie.spec
-    read-header-requires
-    enum-told
-    slice-aggregate-list-with
-    list-with-requires
-    same-length
+    open-requires
+    enum-known-count
     returns
-    slice-aggregate-list-with-2
-    list-with-requires-2
-    same-length-2
-    returns-2
-    slice-aggregate-list-with-3
-    list-with-requires-3
+    mark-requires
+    slice-relend-prefix-sort
+    slice-aggregate-sort
+    sort-requires
+    settle-requires
+    spread-requires
+    mul-t8
     enum-known-r
-    same-length-3
-    returns-3
-    returns-4)
+    same-length
+    returns-2
+    returns-3)

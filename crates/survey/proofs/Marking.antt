@@ -1,0 +1,132 @@
+-- The walk that marks the blocks and gathers the measured sources, as plain lists and numbers: its invariant, start,
+-- turn and end. Assumes nothing.
+use Prim.Native.Nat.{ℕ, suc, _+_, _*_, _<_, _≤_}
+use mathlib.Core.Path.{_≡_, refl, sym, ap, _∙_}
+use mathlib.Core.Bool.{Bool, true, false, _||_}
+use mathlib.Core.List.{List, [], _∷_, _++_, append-nil}
+use native.Mathlib.Omega.{arith}
+use native.Mathlib.Nat.{add-zero}
+use native.Mathlib.Numerals.{add-one}
+use lib.ListN.{length, getD, take, drop, set, length-append, length-set}
+use lib.Seq.{take-set-le, drop-set-add, drop-cons, set-at, append-snoc}
+use Rattle.frame.specs.Frames.{Entry, whole, nextAt, entryAt, framesAt, firstBlock}
+use Rattle.frame.proofs.Stepping.{first-of, at-end}
+use Rattle.packet.specs.Blocks.{measures, measured, readIn}
+use Rattle.packet.specs.Steps.{Inside, blocksOf}
+use Rattle.survey.specs.Survey.{verdictOf}
+use Rattle.survey.specs.Sources.{member, Grown}
+use Rattle.survey.specs.Packed.{verdicts, packing, Room, Marked}
+use Rattle.survey.proofs.Members.{later}
+
+pub packing-length : (all es : List Entry) → length (packing all es) ≡ length es
+unfolding packing
+packing-length all [] = refl
+packing-length all (e ∷ es) = ap suc (packing-length all es)
+
+pub packing-snoc : (all es : List Entry) (e : Entry) (rest : List ℕ) →
+    packing all (es ++ (e ∷ [])) ++ rest ≡ packing all es ++ (e .place * verdicts + verdictOf (readIn all e)) ∷ rest
+unfolding packing
+packing-snoc all [] e rest = refl
+packing-snoc all (f ∷ es) e rest = rw (packing-snoc all es e rest)
+
+measured-snoc : (x : ℕ) (es : List Entry) (e : Entry) → measured x (es ++ (e ∷ [])) ≡ (measures x e || measured x es)
+unfolding measured
+measured-snoc x [] e = refl
+measured-snoc x (f ∷ es) e = rw (measured-snoc x es e) (swap (measures x f) (measures x e) (measured x es))
+  where
+    swap : (p q r : Bool) → (p || (q || r)) ≡ (q || (p || r))
+    swap true true r = refl
+    swap true false r = refl
+    swap false q r = refl
+
+-- The walk stands at `at`: the blocks passed are packed from `count` on, and the first k entries are their sources.
+pub record Mark (s old : List ℕ) (count : ℕ) (out : List ℕ) (at i k : ℕ) : Type 0 where
+  pub passed : List Entry
+  pub left : List Entry
+  pub blocks : blocksOf s ≡ passed ++ left
+  pub frames : framesAt s at ≡ whole left
+  pub index : i ≡ count + length passed
+  pub few : k ≤ length passed
+  pub same : (x : ℕ) → member x (take k out) ≡ measured x passed
+  pub packed : drop count out ≡ packing [] passed ++ drop i old
+  pub long : length out ≡ length old
+
+module _ (s old : List ℕ) (count : ℕ) (room : Room s old count) where
+  pub mark-start : Mark s old count old firstBlock count 0
+  unfolding member measured packing
+  mark-start =
+      record {
+        passed = [];
+        left = blocksOf s;
+        blocks = refl;
+        frames = room .whole-blocks;
+        index = omega arith;
+        few = omega arith;
+        same = λ x. refl;
+        packed = refl;
+        long = refl;
+      }
+
+  module _ (out : List ℕ) (at i k : ℕ) (m : Mark s old count out at i k) where
+    total : count ≡ length (m .passed) + length (m .left)
+    total = room .counted ∙ ap length (m .blocks) ∙ length-append (m .passed) (m .left)
+
+    -- a turn has a block at its place, and room for its packed number and its source
+    pub mark-inside : at < length s → Inside s at
+    mark-inside h = record { starts = h; ends = first-of s at (m .left) h (m .frames) .fits }
+
+    pub mark-room : at < length s → (i < 2 * count) × (k < count)
+    mark-room h =
+        let one = ap length (first-of s at (m .left) h (m .frames) .first) in
+        let all = total in
+        let index = m .index in
+        let few = m .few in
+        (omega arith, omega arith)
+
+    pub mark-on : at < length s → (v : ℕ) → v ≡ verdictOf (readIn [] (entryAt s at)) → (next r : ℕ) (new : List ℕ) → next ≡ nextAt s at →
+        Grown (entryAt s at) (set out i (at * verdicts + v)) new k r → Mark s old count new next (i + 1) r
+    unfolding entryAt
+    mark-on h v is next r new e grow =
+        let first = first-of s at (m .left) h (m .frames) in
+        let within = mark-room h in
+        let fits = room .fits in
+        let few = m .few in
+        let more = grow .few in
+        let index = m .index in
+        let long = m .long in
+        record {
+          passed = m .passed ++ (entryAt s at ∷ []);
+          left = first .rest;
+          blocks = m .blocks ∙ ap (λ (es : List Entry). m .passed ++ es) (first .first) ∙ sym (append-snoc (m .passed) (entryAt s at) (first .rest));
+          frames = rw e (first .after);
+          index = ap (λ (n : ℕ). n + 1) index ∙ sym (rw (length-append (m .passed) (entryAt s at ∷ [])) (omega arith));
+          few = rw (length-append (m .passed) (entryAt s at ∷ [])) (omega arith);
+          same = λ x.
+              grow .same x ∙ ap (λ (l : List ℕ). measures x (entryAt s at) || member x l) (take-set-le k out i (at * verdicts + v) (omega arith))
+              ∙ ap (λ (b : Bool). measures x (entryAt s at) || b) (m .same x) ∙ sym (measured-snoc x (m .passed) (entryAt s at));
+          packed =
+              later (k + 1) count new (set out i (at * verdicts + v)) (omega arith) (grow .rest)
+              ∙ ap (λ (n : ℕ). drop count (set out n (at * verdicts + v))) index
+              ∙ drop-set-add count out (length (m .passed)) (at * verdicts + v)
+              ∙ ap (λ (l : List ℕ). set l (length (m .passed)) (at * verdicts + v)) (m .packed ∙ ap (λ (l : List ℕ). packing [] (m .passed) ++ l) (drop-cons old i 0 (omega arith)))
+              ∙ set-at (packing [] (m .passed)) (getD old i 0) (drop (suc i) old) (at * verdicts + v) (length (m .passed)) (packing-length [] (m .passed))
+              ∙ ap (λ (n : ℕ). packing [] (m .passed) ++ (at * verdicts + n) ∷ drop (suc i) old) is
+              ∙ sym (packing-snoc [] (m .passed) (entryAt s at) (drop (suc i) old))
+              ∙ ap (λ (n : ℕ). packing [] (m .passed ++ (entryAt s at ∷ [])) ++ drop n old) (sym (add-one i));
+          long = grow .long ∙ length-set out i (at * verdicts + v) ∙ long;
+        }
+
+    pub mark-end : length s ≤ at → Marked s old out count k
+    mark-end h =
+        let none : whole (m .left) ≡ whole [] = sym (m .frames) ∙ at-end s at h in
+        let empty : m .left ≡ [] = cc in
+        let all : blocksOf s ≡ m .passed = m .blocks ∙ ap (λ (es : List Entry). m .passed ++ es) empty ∙ append-nil (m .passed) in
+        let counted : count ≡ length (m .passed) = room .counted ∙ ap length all in
+        let few = m .few in
+        let index = m .index in
+        let twice : i ≡ 2 * count = omega arith in
+        record {
+          few = omega arith;
+          same = λ x. m .same x ∙ ap (measured x) (sym all);
+          packed = rw all (rw twice at (m .packed));
+        }

@@ -1,0 +1,86 @@
+-- Which numbers stand in a list: in a list taken apart, by positions, in a list with the same numbers in another
+-- order; and a table that grows by the source of one block. Assumes nothing.
+use Prim.Native.Nat.{ℕ, zero, suc, _+_, _-_, _<_, _≤_}
+use mathlib.Core.Path.{_≡_, refl, sym, ap, _∙_}
+use mathlib.Core.Bool.{Bool, true, false, cond, _||_, or-assoc}
+use mathlib.Core.List.{List, [], _∷_, _++_}
+use native.Mathlib.Omega.{arith}
+use native.Mathlib.Numerals.{add-one}
+use borrow.Author.Tests.{eq-eqb, ne-eqb}
+use lib.Dec.{eqb}
+use lib.ListN.{length, getD, take, drop, set, length-set}
+use lib.Seq.{take-suc-set, drop-set-lt, drop-drop}
+use Rattle.sorting.specs.Order.{one, times, Permuted}
+use Rattle.block.specs.Reading.{measuredBy}
+use Rattle.block.specs.declared.Measures.the-variants.{Source, Nothing}
+use Rattle.frame.specs.Frames.{Entry}
+use Rattle.packet.proofs.Measuring.{names-source, names-nothing}
+use Rattle.survey.specs.Sources.{member, Grown}
+
+member-append : (x : ℕ) (s t : List ℕ) → member x (s ++ t) ≡ (member x s || member x t)
+unfolding member
+member-append x [] t = refl
+member-append x (y ∷ s) t = rw (member-append x s t) (sym (or-assoc (eqb y x) (member x s) (member x t)))
+
+-- membership by positions
+pub nowhere : (table : List ℕ) (x : ℕ) → ((i : ℕ) → i < length table → getD table i 0 ≡ x → ⊥) → member x table ≡ false
+unfolding member
+nowhere [] x h = refl
+nowhere (y ∷ ys) x h = rw (ne-eqb y x (h 0 (omega arith)), nowhere ys x (λ i l. h (suc i) (omega arith)))
+
+pub somewhere : (table : List ℕ) (x i : ℕ) → i < length table → getD table i 0 ≡ x → member x table ≡ true
+unfolding member
+somewhere [] x i l e = absurd (omega arith)
+somewhere (y ∷ ys) x zero l e = rw (eq-eqb y x e)
+somewhere (y ∷ ys) x (suc i) l e = rw (somewhere ys x i (omega arith) e) (right (eqb y x))
+  where
+    right : (b : Bool) → (b || true) ≡ true
+    right true = refl
+    right false = refl
+
+-- the same numbers in another order have the same members
+unfoldable some : ℕ → Bool
+some zero = false
+some (suc n) = true
+
+by-times : (x : ℕ) (l : List ℕ) → member x l ≡ some (times x l)
+unfolding member times one some
+by-times x [] = refl
+by-times x (y ∷ l) = go (eqb y x) (by-times x l)
+  where
+    go : (b : Bool) → member x l ≡ some (times x l) → (b || member x l) ≡ some (cond b 1 0 + times x l)
+    go true e = let n : 1 + times x l ≡ suc (times x l) = omega arith in rw n
+    go false e = let n : 0 + times x l ≡ times x l = omega arith in rw n e
+
+pub permuted-member : (old new : List ℕ) → Permuted old new → (x : ℕ) → member x new ≡ member x old
+permuted-member old new p x = by-times x new ∙ ap some (p .same x) ∙ sym (by-times x old)
+
+-- a table that grows by the source of one block, where it measures one
+pub grown : (e : Entry) (old : List ℕ) (k x : ℕ) → k < length old → measuredBy (e .kind) (e .body) ≡ Source x → Grown e old (set old k x) k (k + 1)
+unfolding member
+grown e old k x l m =
+    record {
+      same = λ y.
+          ap (λ (front : List ℕ). member y front) (ap (λ (n : ℕ). take n (set old k x)) (add-one k) ∙ take-suc-set old k x l)
+          ∙ member-append y (take k old) (x ∷ []) ∙ swap (member y (take k old)) (eqb x y)
+          ∙ ap (λ (b : Bool). b || member y (take k old)) (sym (names-source e x m y));
+      few = omega arith;
+      rest = drop-set-lt (k + 1) old k x (omega arith);
+      long = length-set old k x;
+    }
+  where
+    swap : (p q : Bool) → (p || (q || false)) ≡ (q || p)
+    swap true true = refl
+    swap true false = refl
+    swap false true = refl
+    swap false false = refl
+
+pub kept : (e : Entry) (old : List ℕ) (k : ℕ) → measuredBy (e .kind) (e .body) ≡ Nothing → Grown e old old k k
+kept e old k m =
+    record { same = λ y. ap (λ (b : Bool). b || member y (take k old)) (sym (names-nothing e m y)); few = omega arith; rest = refl; long = refl }
+
+-- lists that are the same from one place on are the same from any later place on
+pub later : (n m : ℕ) (l l′ : List ℕ) → n ≤ m → drop n l ≡ drop n l′ → drop m l ≡ drop m l′
+later n m l l′ h e =
+    let sum : n + (m - n) ≡ m = omega arith in
+    ap (λ (k : ℕ). drop k l) (sym sum) ∙ sym (drop-drop (m - n) n l) ∙ ap (drop (m - n)) e ∙ drop-drop (m - n) n l′ ∙ ap (λ (k : ℕ). drop k l′) sum
