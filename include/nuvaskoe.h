@@ -144,7 +144,7 @@ nuvaskoe_block nuvaskoe_packet_block(const uint8_t *packet, size_t packet_len, s
 nuvaskoe_part nuvaskoe_packet_body(const uint8_t *packet, size_t packet_len, size_t index);
 
 /*
- * All blocks in one pass: for each block two entries of out, its offset in the packet and
+ * All blocks in one call: for each block two entries of out, its offset in the packet and
  * its verdict; the entries after them keep what they held. Further refusal: 8, fewer than
  * two entries for each block.
  */

@@ -17,22 +17,22 @@ unfolding headerOf be16 be32
 header-set [] b same = refl
 header-set (a ∷ s) b same = let version : b / 64 ≡ a / 64 = omega arith in rw (version, same)
 
--- the blocks from a place past the first byte
-module _ (s : List ℕ) (b : ℕ) where
-  next-set : (at : ℕ) → 0 < at → nextAt (set s 0 b) at ≡ nextAt s at
-  next-set at h = rw (u16-set s (at + 2) 0 b (λ e. omega arith))
+-- the blocks from a place past the byte that is changed
+module _ (s : List ℕ) (p b : ℕ) where
+  next-set : (at : ℕ) → p < at → nextAt (set s p b) at ≡ nextAt s at
+  next-set at h = rw (u16-set s (at + 2) p b (λ e. omega arith))
 
-  entry-set : (at : ℕ) → 0 < at → entryAt (set s 0 b) at ≡ entryAt s at
+  entry-set : (at : ℕ) → p < at → entryAt (set s p b) at ≡ entryAt s at
   unfolding entryAt
   entry-set at h =
-      rw (getD-set-other s 0 at b 0 (omega arith), getD-set-other s 0 (at + 1) b 0 (omega arith), u16-set s (at + 2) 0 b (λ e. omega arith), drop-set-lt (at + 4) s 0 b (omega arith))
+      rw (getD-set-other s p at b 0 (omega arith), getD-set-other s p (at + 1) b 0 (omega arith), u16-set s (at + 2) p b (λ e. omega arith), drop-set-lt (at + 4) s p b (omega arith))
 
-  frames-set : (most at : ℕ) → 0 < at → framesFrom most (set s 0 b) at ≡ framesFrom most s at
+  pub frames-set : (most at : ℕ) → p < at → framesFrom most (set s p b) at ≡ framesFrom most s at
   unfolding framesFrom
   frames-set zero at h = refl
   frames-set (suc most) at h =
-      rw (length-set s 0 b, next-set at h, entry-set at h, frames-set most (nextAt s at) (omega arith))
+      rw (length-set s p b, next-set at h, entry-set at h, frames-set most (nextAt s at) (omega arith))
 
 pub reserved-first : Reserved-first
 unfolding packetOf
-reserved-first s b same = rw (header-set s b same, length-set s 0 b, frames-set s b (length s) firstBlock (omega arith))
+reserved-first s b same = rw (header-set s b same, length-set s 0 b, frames-set s 0 b (length s) firstBlock (omega arith))

@@ -284,7 +284,7 @@ pub extern "C" fn nuvaskoe_packet_body(packet: &[u8], index: usize) -> Part
     packet::body_part(packet, index)
 }
 
-// All blocks in one pass.
+// All blocks in one call.
 #[no_mangle]
 pub extern "C" fn nuvaskoe_packet_list(packet: &[u8], out: &mut [u32]) -> WrittenSize
     ensures answer { λ r. ⌜ r ≡ writtenOut (listAnswer (packetOf (now (packet .entry))) (now (out .entry))) ⌝ }

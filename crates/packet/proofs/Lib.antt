@@ -4,3 +4,4 @@ pub mod Measuring
 pub mod Chosen
 pub mod Judging
 pub mod Reserved
+pub mod ReservedBytes

@@ -1,8 +1,8 @@
 -- The cases of listing a packet, the answer and the list afterwards; and how the list goes from step to step. Assumes
 -- nothing.
 use Prim.Native.Nat.{ℕ, _+_, _*_, _<_, _≤_}
-use mathlib.Core.Path.{_≡_, refl, sym, ap, _∙_}
-use mathlib.Core.List.{List, [], _∷_, _++_}
+use mathlib.Core.Path.{_≡_, sym, ap, _∙_}
+use mathlib.Core.List.{List, [], _++_}
 use native.Mathlib.Omega.{arith}
 use lib.ListN.{length, take, drop, length-append, length-drop}
 use borrow.Author.Tests.{le-leb, lt-leb}
@@ -13,12 +13,11 @@ use Rattle.refusal.specs.declared.Refusal.{Refusal}
 use Rattle.refusal.specs.declared.Written.{Written}
 use Rattle.refusal.specs.declared.Written.the-variants.{Size, Refused}
 use Rattle.sorting.specs.Order.{Sorted, Permuted}
-use Rattle.frame.specs.Frames.{Entry, whole}
+use Rattle.frame.specs.Frames.{whole}
 use Rattle.frame.specs.Packet.{bad, packetOf}
-use Rattle.packet.specs.Steps.{blocksOf, Whole}
+use Rattle.packet.specs.Steps.{blocksOf}
 use Rattle.packet.proofs.Opening.{Open}
 use Rattle.survey.specs.Survey.{listing, listOf, listAnswer}
-use Rattle.survey.specs.Sources.{Table}
 use Rattle.survey.specs.Packed.{packing, spreadOf, Room, Marked, Settleable}
 use Rattle.survey.proofs.Members.{permuted-member, later}
 use Rattle.survey.proofs.Marking.{packing-length}

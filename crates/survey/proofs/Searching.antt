@@ -1,8 +1,8 @@
 -- Search by halves in a sorted table: the invariant, one turn and the end. Assumes nothing.
 use Prim.Native.Nat.{ℕ, _+_, _-_, _*_, _/_, _<_, _≤_}
-use mathlib.Core.Path.{_≡_, refl, sym, ap, _∙_}
+use mathlib.Core.Path.{_≡_, sym, ap, _∙_}
 use mathlib.Core.Bool.{Bool, true, false, cond}
-use mathlib.Core.List.{List, []}
+use mathlib.Core.List.{List}
 use native.Mathlib.Omega.{arith}
 use native.Mathlib.Nat.{mul-one, mul-zero}
 use native.Mathlib.Decide.{decLt, decLe, ℕ-discrete}
@@ -74,6 +74,13 @@ halves-end table x low size sorted h one = go (ℕ-discrete (getD table low 0) x
 pub none-held : (table : List ℕ) (x : ℕ) → length table ≡ 0 → false ≡ member x table
 none-held table x e = sym (nowhere table x (λ i l same. omega arith))
 
+pub at-most-once : (n times : ℕ) → times ≤ 1 → n * times ≤ n
+at-most-once n times h = go (ℕ-discrete times 0)
+  where
+    go : Dec (times ≡ 0) → n * times ≤ n
+    go (yes none) = rw (none, mul-zero) (omega arith)
+    go (no some) = let one : times ≡ 1 = omega arith in rw (one, mul-one) (omega arith)
+
 -- the carry of a difference is a comparison
 module _ (y x n : ℕ) (y-fits : y < 4294967296) (x-fits : x < 4294967296) where
   pub carried : n * ((x + 4294967296 - y) / 4294967296) ≡ cond (leb y x) n 0
@@ -82,6 +89,3 @@ module _ (y x n : ℕ) (y-fits : y < 4294967296) (x-fits : x < 4294967296) where
       go : Dec (y ≤ x) → n * ((x + 4294967296 - y) / 4294967296) ≡ cond (leb y x) n 0
       go (yes le) = let one : (x + 4294967296 - y) / 4294967296 ≡ 1 = omega arith in rw (one, le-leb y x le, mul-one)
       go (no gt) = let none : (x + 4294967296 - y) / 4294967296 ≡ 0 = omega arith in rw (none, lt-leb y x (omega arith), mul-zero)
-
-  pub carried-most : n * ((x + 4294967296 - y) / 4294967296) ≤ n
-  carried-most = rw carried (at-most (leb y x) n)

@@ -3,10 +3,9 @@ use Prim.Native.Nat.{ℕ, suc, _+_, _*_, _/_, _%_, _<_, _≤_}
 use mathlib.Core.Path.{_≡_, refl, sym, ap, _∙_}
 use mathlib.Core.List.{List, [], _∷_, _++_}
 use native.Mathlib.Omega.{arith}
-use native.Mathlib.Nat.{add-zero}
 use native.Mathlib.Numerals.{add-one}
 use lib.ListN.{length, getD, take, drop, set, length-set, length-drop, take-append-drop}
-use lib.Seq.{take-suc, take-suc-set, take-set-le, drop-set-lt, drop-cons, getD-drop, append-snoc}
+use lib.Seq.{take-suc, take-suc-set, drop-set-lt, getD-drop, append-snoc}
 use Rattle.frame.specs.Frames.{Entry}
 use Rattle.packet.specs.Blocks.{readIn}
 use Rattle.survey.specs.Survey.{verdictOf, listing}

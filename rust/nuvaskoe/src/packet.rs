@@ -18,6 +18,7 @@ pub struct Summary {
 }
 
 /// The sender and the number of blocks.
+#[inline]
 pub fn read(packet: &[u8]) -> Result<Summary, Refusal> {
     // SAFETY: a slice's pointer is never null and is good for reading its length.
     let answer = unsafe { boundary::nuvaskoe_packet_read(packet.as_ptr(), packet.len()) };
@@ -46,6 +47,7 @@ pub fn block(packet: &[u8], index: usize) -> Result<Reading, Refusal> {
 
 /// The body of block number `index`, as the part of `packet` it lies in: the words after
 /// the block's first. Empty where [`block`] refuses.
+#[inline]
 pub fn body(packet: &[u8], index: usize) -> &[u8] {
     // SAFETY: a slice's pointer is never null and is good for reading its length.
     let part = unsafe { boundary::nuvaskoe_packet_body(packet.as_ptr(), packet.len(), index) };
@@ -55,11 +57,12 @@ pub fn body(packet: &[u8], index: usize) -> &[u8] {
         .expect("a body lies in its packet")
 }
 
-/// All blocks in one pass: for each block two entries of `out`, its offset in the packet
+/// All blocks in one call: for each block two entries of `out`, its offset in the packet
 /// and [its verdict's number](crate::block::Verdict::number). Answers how many entries
 /// were written; those after them keep what they held.
 ///
 /// Further refusal: 8, fewer than two entries for each block.
+#[inline]
 pub fn list(packet: &[u8], out: &mut [u32]) -> Result<usize, Refusal> {
     // SAFETY: a slice's pointer is never null and is good for reading its length, and
     // `out` lends all its length for writing.

@@ -1,7 +1,6 @@
 -- `survey::has` meets its contract. The loop's invariant is `Halves`. Assumes nothing.
 use native.Mathlib.Omega.{arith}
 use Rattle.survey.proofs.Searching.{Halves, halves-all, halves-on, halves-step, halves-end, none-held}
-use borrow.Author.Needs.{needs}
 use Rattle.survey.proofs.has.Statement.{statement}
 use Rattle.survey.proofs.has.Tie as tie
 

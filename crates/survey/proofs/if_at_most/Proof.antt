@@ -1,6 +1,7 @@
 -- `survey::if_at_most` meets its contract. Assumes nothing.
 use native.Mathlib.Omega.{arith}
-use Rattle.survey.proofs.Searching.{carried, carried-most}
+use native.Mathlib.Nat.{lt-of-le-of-lt}
+use Rattle.survey.proofs.Searching.{carried, at-most-once}
 use borrow.Author.Needs.{needs}
 use Rattle.survey.proofs.if_at_most.Statement.{statement}
 use Rattle.survey.proofs.if_at_most.Tie as tie
@@ -12,7 +13,7 @@ sub-carry : tie.Need-sub-carry
 sub-carry c = search needs
 
 mul-result : tie.Need-mul-result
-mul-result c = omega (arith, carried-most (c .args .y) (c .args .x) (c .args .n) (omega arith) (omega arith))
+mul-result c = record { fits = lt-of-le-of-lt (at-most-once _ _ (omega arith)) (omega arith) }
 
 returns : tie.Need-returns
 returns c = carried _ _ _ (omega arith) (omega arith)

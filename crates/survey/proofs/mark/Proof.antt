@@ -1,5 +1,5 @@
 -- `survey::mark` meets its contract. The loop's invariant is `Mark`. Assumes nothing.
-use Prim.Native.Nat.{_-_, _*_, _<_}
+use Prim.Native.Nat.{_-_, _<_, _≤_}
 use mathlib.Core.Path.{_≡_, _∙_}
 use native.Mathlib.Omega.{arith}
 use lib.ListN.{length, length-set}
@@ -30,6 +30,13 @@ room c =
 next : (c : tie.After-next-block Inv-loop μ-loop) → c .next-block .result ≡ nextAt (c .before .before .before .before .before .args .s .now) (c .before .before .loop .at)
 next c = c .next-block .ensures ∙ next-inside _ (c .before .before .loop .at) (omega arith)
 
+-- both stand below the limit of places
+small : (c : tie.After-next-block Inv-loop μ-loop) → (c .before .before .loop .at ≤ 262144) × (c .next-block .result ≤ 262144)
+small c =
+    let ends = inside (c .before) .ends in
+    let short = c .before .before .before .before .before .pre .short in
+    (omega (arith, c .before), omega (arith, next c))
+
 loop-holds : tie.Need-loop-holds Inv-loop μ-loop
 loop-holds c = mark-start _ _ _ (c .before .before .pre)
 
@@ -37,10 +44,10 @@ next-block-requires : tie.Need-next-block-requires Inv-loop μ-loop
 next-block-requires c κs = search needs
 
 cast-out : tie.Need-cast-out Inv-loop μ-loop
-cast-out c = omega (arith, c .before, c .before .before .before .before .before .pre .short)
+cast-out c = omega (arith, c .before, small c)
 
 mul-out : tie.Need-mul-out Inv-loop μ-loop
-mul-out c = omega (arith, c .before, c .before .before .before .before .before .pre .short)
+mul-out c = omega (arith, c .before, small c)
 
 verdict-unmeasured-requires : tie.Need-verdict-unmeasured-requires Inv-loop μ-loop
 verdict-unmeasured-requires c κs = (inside (c .before), next c)
@@ -49,7 +56,7 @@ cast-out-2 : tie.Need-cast-out-2 Inv-loop μ-loop
 cast-out-2 c = omega (arith, c .verdict-unmeasured .ok)
 
 add-out : tie.Need-add-out Inv-loop μ-loop
-add-out c = omega (arith, c .verdict-unmeasured .ok, c .before .before, c .before .before .before .before .before .before .pre .short)
+add-out c = omega (arith, c .verdict-unmeasured .ok, c .before .before, small (c .before))
 
 mul-out-2 : tie.Need-mul-out-2 Inv-loop μ-loop
 mul-out-2 c = omega (arith, room (c .before .before), c .before .before .before .before .before .before .good .1 .0 .1)

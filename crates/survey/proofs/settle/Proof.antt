@@ -4,7 +4,6 @@ use mathlib.Core.Path.{sym, _∙_}
 use mathlib.Core.Logic.{⊎-elim}
 use native.Mathlib.Omega.{arith}
 use Rattle.survey.proofs.Settling.{Settle, settle-start, settle-table, settle-on, settle-back, settle-left, settle-enough, settle-end}
-use borrow.Author.Needs.{needs}
 use Rattle.survey.proofs.settle.Statement.{statement}
 use Rattle.survey.proofs.settle.Tie as tie
 
@@ -37,7 +36,7 @@ cast-out : tie.Need-cast-out Inv-loop μ-loop
 cast-out c = omega arith
 
 sub-out : tie.Need-sub-out Inv-loop μ-loop
-sub-out c = settle-enough _ _ _ _ (c .before .before .before .before .before .before .before .before .pre) _ _ (c .before .before .before .before .before .loop .inv) (more (c .before .before .before .before)) (sym (c .before .is-measured .ensures) ∙ c .if1 .taken)
+sub-out c = omega (arith, settle-enough _ _ _ _ (c .before .before .before .before .before .before .before .before .pre) _ _ (c .before .before .before .before .before .loop .inv) (more (c .before .before .before .before)) (sym (c .before .is-measured .ensures) ∙ c .if1 .taken))
 
 mul-out : tie.Need-mul-out Inv-loop μ-loop
 mul-out c = omega (arith, more (c .before .before .before .before), c .before .before .before .before .before .before .before .before .pre .room .fits, c .before .before .before .before .before .before .before .before .good .1 .0 .1)

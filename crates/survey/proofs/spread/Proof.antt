@@ -3,7 +3,6 @@ use Prim.Native.Nat.{_-_}
 use native.Mathlib.Omega.{arith}
 use lib.ListN.{length-set}
 use Rattle.survey.proofs.Spreading.{Spread, spread-start, spread-on, spread-end}
-use borrow.Author.Needs.{needs}
 use Rattle.survey.proofs.spread.Statement.{statement}
 use Rattle.survey.proofs.spread.Tie as tie
 
