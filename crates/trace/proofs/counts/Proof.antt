@@ -1,0 +1,22 @@
+-- `trace::counts` meets its contract, one event after the other. Assumes nothing.
+use Rattle.trace.specs.Trace.{countsAs}
+use borrow.Author.Needs.{needs}
+use Rattle.trace.proofs.counts.Statement.{statement}
+use Rattle.trace.proofs.counts.Tie as tie
+
+enum-told : tie.Need-enum-told
+enum-told c = search needs
+
+enum-told-2 : tie.Need-enum-told-2
+enum-told-2 c = search needs
+
+returns : tie.Need-returns
+unfolding countsAs
+returns c = rw (c .enum-told .given .1)
+
+returns-2 : tie.Need-returns-2
+unfolding countsAs
+returns-2 c = rw (c .enum-told2 .given .1)
+
+pub counts-spec : {M : Type 1} → statement M
+counts-spec = tie.close (tie.spec enum-told enum-told-2 returns returns-2)

@@ -1,0 +1,59 @@
+-- A trace: document 01, "The trace and its figures". "One byte a packet: 0 received, 1 lost, 2 discarded.
+-- From 1 to 65,536 packets." What a call counts is a parameter, the event.
+use Prim.Native.Nat.{ℕ, suc}
+use mathlib.Core.Bool.{Bool, cond, _&&_}
+use mathlib.Core.List.{List, [], _∷_}
+use lib.Dec.{eqb, leb}
+use lib.ListN.{length, getD}
+use Rattle.refusal.specs.Table.{traceLength, traceByte}
+use Rattle.refusal.specs.Answer.{unless}
+use Rattle.refusal.specs.declared.Refusal.{Refusal}
+use Rattle.trace.specs.declared.Event.{Event}
+use Rattle.trace.specs.declared.Event.the-variants.{Lost, Discarded}
+use Rattle.trace.specs.declared.Judged.{Judged}
+use Rattle.trace.specs.declared.Judged.the-variants.{Accepted, Refused}
+
+abbrev pub lost : ℕ
+lost = 1
+
+abbrev pub discarded : ℕ
+discarded = 2
+
+abbrev pub packetMax : ℕ
+packetMax = 2
+
+abbrev pub traceMin : ℕ
+traceMin = 1
+
+abbrev pub traceMax : ℕ
+traceMax = 65_536
+
+-- whether an event counts a packet
+unfoldable pub countsAs : Event → ℕ → Bool
+countsAs Lost packet = eqb packet lost
+countsAs Discarded packet = eqb packet discarded
+
+-- whether packet i of a trace is counted
+abbrev pub countedIn : Event → List ℕ → ℕ → Bool
+countedIn event s i = countsAs event (getD s i 0)
+
+-- "trace empty or over 65,536" is not so
+unfoldable pub lengthInRange : List ℕ → Bool
+lengthInRange s = leb traceMin (length s) && leb (length s) traceMax
+
+-- where the first byte above 2 stands; the length, where there is none
+unfoldable pub firstBad : List ℕ → ℕ
+firstBad [] = 0
+firstBad (packet ∷ s) = cond (leb packet packetMax) (suc (firstBad s)) 0
+
+-- A trace by itself, with the order line "Traces: 15, 10, 9, 14, 8".
+unfoldable pub judged : List ℕ → Judged
+judged s =
+    unless (lengthInRange s) (Refused traceLength)
+    (unless (leb (length s) (firstBad s)) (Refused (traceByte (firstBad s)))
+    Accepted)
+
+-- what an answer is over a trace: its refusal, and otherwise what follows
+abbrev pub ifAccepted : {A : Type 0} → Judged → (Refusal → A) → A → A
+ifAccepted Accepted refused rest = rest
+ifAccepted (Refused r) refused rest = refused r

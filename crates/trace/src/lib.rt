@@ -1,0 +1,59 @@
+// A trace and what is counted in it: document 01, "The trace and its figures". One byte a packet; a trace is
+// accepted or refused as a whole, and a call counts one kind of event in it.
+use refusal::Refusal;
+ghost use mathlib.Core.Path.{_≡_};
+ghost use Rattle.trace.specs.Trace.{countsAs, judged};
+
+pub const LOST: u8 = 1;
+
+pub const DISCARDED: u8 = 2;
+
+// The highest byte of a trace.
+pub const PACKET_MAX: u8 = 2;
+
+// The fewest and the most packets of a trace.
+pub const TRACE_MIN: usize = 1;
+
+pub const TRACE_MAX: usize = 65_536;
+
+// What a call counts. All other packets are to it as received.
+pub enum Event {
+    Lost,
+    Discarded,
+}
+
+// Whether a packet is one of the counted.
+pub fn counts(event: Event, packet: u8) -> bool
+    ensures { λ r. ⌜ r ≡ countsAs event packet ⌝ }
+{
+    match event {
+        Event::Lost => packet == LOST,
+        Event::Discarded => packet == DISCARDED,
+    }
+}
+
+// Whether a trace is accepted, or why not.
+pub enum Judged {
+    Accepted,
+    Refused(Refusal),
+}
+
+// Judges a trace by its length and then by its bytes.
+pub fn judge(trace: &[u8]) -> Judged
+    ensures { λ r. ⌜ r ≡ judged (now (trace .entry)) ⌝ }
+{
+    if trace.len() < TRACE_MIN {
+        return Judged::Refused(refusal::TRACE_LENGTH);
+    }
+    if TRACE_MAX < trace.len() {
+        return Judged::Refused(refusal::TRACE_LENGTH);
+    }
+    let mut i = 0;
+    while i < trace.len() {
+        if PACKET_MAX < trace[i] {
+            return Judged::Refused(refusal::trace_byte(i));
+        }
+        i += 1;
+    }
+    Judged::Accepted
+}
