@@ -1,0 +1,4 @@
+pub mod Judging
+pub mod Batches
+pub mod Loss
+pub mod Laws

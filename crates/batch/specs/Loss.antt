@@ -1,0 +1,32 @@
+-- Effective loss of a trace: document 01, "The answer is K, N, the integer part of K × 65535 / N, and it names
+-- the first batch whose losses exceed the threshold, or says none." The counted event is a parameter.
+use Prim.Native.Nat.{ℕ, _*_, _/_}
+use mathlib.Core.Bool.{Bool}
+use mathlib.Core.List.{List}
+use lib.ListN.{length}
+use Rattle.trace.specs.declared.Event.{Event}
+use Rattle.trace.specs.Trace.{countedIn, ifAccepted}
+use Rattle.batch.specs.declared.EffectiveLoss.{EffectiveLoss}
+use Rattle.batch.specs.declared.LossRead.{LossRead}
+use Rattle.batch.specs.declared.LossRead.the-variants.{Loss, Refused}
+use Rattle.batch.specs.Batches.{batches, overCount, firstOver}
+use Rattle.batch.specs.Judging.{judgedFor}
+
+-- the index of a loss of every batch
+abbrev pub fullLoss : ℕ
+fullLoss = 65_535
+
+abbrev pub indexOf : ℕ → ℕ → ℕ
+indexOf k n = k * fullLoss / n
+
+unfoldable pub lossOf : (ℕ → Bool) → ℕ → ℕ → ℕ → EffectiveLoss
+lossOf lost e b t =
+    record {
+      over = overCount lost e b t;
+      batches = batches e b;
+      index = indexOf (overCount lost e b t) (batches e b);
+      first = firstOver lost e b t;
+    }
+
+unfoldable pub lossAnswer : Event → List ℕ → ℕ → ℕ → LossRead
+lossAnswer event s b t = ifAccepted (judgedFor s b t) Refused (Loss (lossOf (countedIn event s) (length s) b t))

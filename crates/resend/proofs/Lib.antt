@@ -1,0 +1,6 @@
+pub mod Ahead
+pub mod Windows
+pub mod Greedy
+pub mod Best
+pub mod Filling
+pub mod Answering

@@ -1,0 +1,53 @@
+-- `resend::plan` meets its contract. Each return is one of the cases of Answering.antt. Assumes nothing.
+use mathlib.Core.Path.{_≡_, sym, _∙_}
+use Rattle.trace.specs.declared.Judged.the-variants.{Accepted}
+use Rattle.batch.specs.Judging.{judgedFor}
+use Rattle.batch.proofs.Judging.{Fit, fit}
+use Rattle.resend.proofs.Answering.{refused, too-short, planned}
+use borrow.Author.Needs.{needs}
+use Rattle.resend.proofs.plan.Statement.{statement}
+use Rattle.resend.proofs.plan.Tie as tie
+
+judge-requires : tie.Need-judge-requires
+judge-requires c κs = search needs
+
+enum-told : tie.Need-enum-told
+enum-told c = search needs
+
+-- in the arm of an accepted trace
+judged : (c : tie.After-enum-told) → judgedFor (c .before .before .before .before .before .args .trace .now) (c .before .before .before .before .before .args .batch) (c .before .before .before .before .before .args .threshold) ≡ Accepted
+judged c = sym (c .before .before .judge .ensures) ∙ c .enum-told .given .1
+
+fits : (c : tie.After-enum-told) → Fit (c .before .before .before .before .before .args .trace .now) (c .before .before .before .before .before .args .batch) (c .before .before .before .before .before .args .threshold)
+fits c = fit _ _ _ (judged c)
+
+returns : tie.Need-returns
+returns c = too-short _ _ _ _ _ (judged (c .before)) (c .if1 .taken)
+
+fill-requires : tie.Need-fill-requires
+fill-requires c κs = (fits (c .before .before) .range .first .least, fits (c .before .before) .within, c .before .if1 .left)
+
+enum-known-r : tie.Need-enum-known-r
+enum-known-r c = search needs
+
+same-length : tie.Need-same-length
+same-length c = search needs
+
+returns-2 : tie.Need-returns-2
+returns-2 c = planned _ _ _ _ _ _ _ (judged (c .before .before .before .before .before)) (c .before .before .before .before .if1 .left) (c .before .before .fill .ensures .0) (c .before .before .fill .ensures .1)
+
+returns-3 : tie.Need-returns-3
+returns-3 c = refused _ _ _ _ _ _ (sym (c .before .before .before .judge .ensures) ∙ c .before .r .given .1)
+
+pub plan-spec : {M : Type 1} → statement M
+plan-spec =
+    tie.close
+    (tie.spec
+    judge-requires
+    enum-told
+    returns
+    fill-requires
+    enum-known-r
+    same-length
+    returns-2
+    returns-3)

@@ -1,0 +1,4 @@
+pub mod Plans
+pub mod Greedy
+pub mod Answer
+pub mod Laws
