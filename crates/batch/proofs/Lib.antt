@@ -1,1 +1,5 @@
 pub mod Judging
+pub mod Searching
+pub mod Counting
+pub mod Loops
+pub mod Answering

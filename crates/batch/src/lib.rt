@@ -1,9 +1,20 @@
 // Effective loss: document 002 and document 01, "Effective loss". Batches are all runs of B consecutive packets;
 // the answer says how many of them lost more than T, and which is the first.
 use refusal::Refusal;
+use trace::Event;
 use trace::Judged;
 ghost use mathlib.Core.Path.{_≡_};
+ghost use Prim.Native.Nat.{_+_, _-_, _≤_};
+ghost use lib.ListN.{length};
+ghost use Rattle.trace.specs.declared.Event.the-variants.{Lost};
+ghost use Rattle.trace.specs.Sum.{bit, count};
+ghost use Rattle.trace.specs.Trace.{countsAs, countedIn, traceMax};
 ghost use Rattle.batch.specs.Judging.{judgedFor};
+ghost use Rattle.batch.specs.Batches.{batches, lossesIn, over, overCount, firstOver};
+ghost use Rattle.batch.specs.Loss.{lossOf, lossAnswer};
+
+// The index of a loss of every batch.
+const FULL_LOSS: usize = 65_535;
 
 // The first batch over the threshold, by the index of its first packet.
 pub enum First {
@@ -25,6 +36,18 @@ pub enum LossRead {
     Refused(Refusal),
 }
 
+// The effective loss of a trace.
+pub fn effective_loss(trace: &[u8], batch: u32, threshold: u32) -> LossRead
+    ensures { λ r. ⌜ r ≡ lossAnswer Lost (now (trace .entry)) batch threshold ⌝ }
+{
+    match judge(trace, batch, threshold) {
+        Judged::Accepted => {
+            LossRead::Loss(loss_of(Event::Lost, trace, batch as usize, threshold as usize))
+        }
+        Judged::Refused(r) => LossRead::Refused(r),
+    }
+}
+
 // Judges the settings, then the trace, then the batch against the trace.
 pub fn judge(trace: &[u8], batch: u32, threshold: u32) -> Judged
     ensures { λ r. ⌜ r ≡ judgedFor (now (trace .entry)) batch threshold ⌝ }
@@ -41,4 +64,94 @@ pub fn judge(trace: &[u8], batch: u32, threshold: u32) -> Judged
         }
         Judged::Refused(r) => Judged::Refused(r),
     }
+}
+
+// The effective loss of an accepted trace.
+fn loss_of(event: Event, s: &[u8], batch: usize, threshold: usize) -> EffectiveLoss
+    requires { ⌜ (1 ≤ batch) × (batch ≤ length (now s)) × (length (now s) ≤ traceMax) ⌝ }
+    ensures { λ r. ⌜ r ≡ lossOf (countedIn event (now (s .entry))) (length (now (s .entry))) batch threshold ⌝ }
+{
+    let batches = s.len() - batch + 1;
+    let first = first_over(event, s, batch, threshold);
+    let over = over_count(event, s, batch, threshold, first);
+    EffectiveLoss {
+        over: over,
+        batches: batches,
+        index: (over * FULL_LOSS / batches) as u16,
+        first: first,
+    }
+}
+
+// The first batch over the threshold: batch by batch, and in a batch packet by packet, until one is known.
+fn first_over(event: Event, s: &[u8], batch: usize, threshold: usize) -> First
+    requires { ⌜ (1 ≤ batch) × (batch ≤ length (now s)) ⌝ }
+    ensures { λ r. ⌜ r ≡ firstOver (countedIn event (now (s .entry))) (length (now (s .entry))) batch threshold ⌝ }
+{
+    let mut found = First::None;
+    let mut k = 0;
+    'batches: while k + batch <= s.len() {
+        let mut losses = 0;
+        let mut i = 0;
+        while i < batch {
+            losses += counted(event, s[k + i]);
+            if threshold < losses {
+                found = First::At(k);
+                break 'batches;
+            }
+            i += 1;
+        }
+        k += 1;
+    }
+    found
+}
+
+// How many batches are over the threshold. None before the first is, so they are counted from there.
+fn over_count(event: Event, s: &[u8], batch: usize, threshold: usize, first: First) -> usize
+    requires { ⌜ (1 ≤ batch) × (batch ≤ length (now s)) × (first ≡ firstOver (countedIn event (now s)) (length (now s)) batch threshold) ⌝ }
+    ensures { λ r. ⌜ r ≡ overCount (countedIn event (now (s .entry))) (length (now (s .entry))) batch threshold ⌝ }
+{
+    match first {
+        First::At(k) => over_from(event, s, batch, threshold, k),
+        First::None => 0,
+    }
+}
+
+// How many batches from batch `start` on are over the threshold.
+fn over_from(event: Event, s: &[u8], batch: usize, threshold: usize, start: usize) -> usize
+    requires { ⌜ (1 ≤ batch) × (start + batch ≤ length (now s)) ⌝ }
+    ensures { λ r. ⌜ r ≡ count (over (countedIn event (now (s .entry))) batch threshold) start (batches (length (now (s .entry))) batch - start) ⌝ }
+{
+    let mut n = 0;
+    let mut j = start;
+    while j + batch <= s.len() {
+        if threshold < losses_in(event, s, batch, j) {
+            n += 1;
+        }
+        j += 1;
+    }
+    n
+}
+
+// The losses in the batch that begins at packet k.
+fn losses_in(event: Event, s: &[u8], batch: usize, k: usize) -> usize
+    requires { ⌜ k + batch ≤ length (now s) ⌝ }
+    ensures { λ r. ⌜ r ≡ lossesIn (countedIn event (now (s .entry))) batch k ⌝ }
+{
+    let mut n = 0;
+    let mut j = 0;
+    while j < batch {
+        n += counted(event, s[k + j]);
+        j += 1;
+    }
+    n
+}
+
+// 1 for a counted packet and 0 for any other.
+fn counted(event: Event, packet: u8) -> usize
+    ensures { λ r. ⌜ r ≡ bit (countsAs event packet) ⌝ }
+{
+    if trace::counts(event, packet) {
+        return 1;
+    }
+    0
 }

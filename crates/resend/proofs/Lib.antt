@@ -4,3 +4,4 @@ pub mod Greedy
 pub mod Best
 pub mod Filling
 pub mod Answering
+pub mod Repair

@@ -9,8 +9,12 @@ use Rattle.settings.specs.Ranges.{batchInRange}
 use Rattle.trace.specs.declared.Event.{Event}
 use Rattle.trace.specs.declared.Judged.the-variants.{Accepted}
 use Rattle.trace.specs.Trace.{countedIn, judged}
+use Rattle.batch.specs.declared.First.the-variants.{None}
+use Rattle.batch.specs.declared.LossRead.the-variants.{Loss}
+use Rattle.batch.specs.Batches.{batches}
+use Rattle.batch.specs.Loss.{lossAnswer}
 use Rattle.resend.specs.declared.Planned.the-variants.{Marks}
-use Rattle.resend.specs.Plans.{marks, Best}
+use Rattle.resend.specs.Plans.{marks, Best, resent}
 use Rattle.resend.specs.Answer.{planAnswer, bufferAfter}
 
 -- the bytes of the lent buffer that are the plan, once the call has answered
@@ -33,3 +37,10 @@ Plan-best =
 -- The best plan is one: any two are the same.
 abbrev pub Best-one : Type 0
 Best-one = (lost : ℕ → Bool) (e b t : ℕ) (p q : List ℕ) → Best lost e b t p → Best lost e b t q → p ≡ q
+
+-- The tie to effective loss: the trace with the plan's packets counted as received has K 0 and no first batch.
+abbrev pub Plan-repairs : Type 0
+Plan-repairs =
+    (event : Event) (s : List ℕ) (b t : ℕ) (buffer : List ℕ) →
+    judged s ≡ Accepted → batchInRange b t ≡ true → b ≤ length s → length s ≤ length buffer →
+    lossAnswer event (resent s (front event s b t buffer)) b t ≡ Loss record { over = 0; batches = batches (length s) b; index = 0; first = None }

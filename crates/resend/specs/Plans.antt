@@ -2,11 +2,12 @@
 -- lost, e is the number of packets, b the batch and t the threshold; batches are those of effective loss.
 use Prim.Native.Nat.{ℕ, _<_, _≤_}
 use mathlib.Core.Path.{_≡_}
-use mathlib.Core.Bool.{Bool, true, _&&_, not}
-use mathlib.Core.List.{List}
+use mathlib.Core.Bool.{Bool, true, cond, _&&_, not}
+use mathlib.Core.List.{List, [], _∷_}
 use lib.Dec.{eqb}
 use lib.ListN.{length, getD}
 use Rattle.trace.specs.Sum.{count}
+use Rattle.trace.specs.Trace.{received}
 use Rattle.batch.specs.Batches.{batches, lossesIn}
 
 -- "A plan is here any list of zeros and ones as long as the trace"
@@ -53,3 +54,9 @@ pub record Best (lost : ℕ → Bool) (e b t : ℕ) (p : List ℕ) : Type 0 wher
   pub first-difference :
       (q : List ℕ) → Valid lost e b t q → marks q ≡ marks p → (i : ℕ) → i < e → DifferFirst p q i →
       (getD q i 0 ≡ 1) × (getD p i 0 ≡ 0)
+
+-- the trace with a plan's packets counted as received
+unfoldable pub resent : List ℕ → List ℕ → List ℕ
+resent [] p = []
+resent (packet ∷ s) [] = packet ∷ s
+resent (packet ∷ s) (mark ∷ p) = cond (eqb mark 1) received packet ∷ resent s p

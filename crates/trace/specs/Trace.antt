@@ -13,6 +13,9 @@ use Rattle.trace.specs.declared.Event.the-variants.{Lost, Discarded}
 use Rattle.trace.specs.declared.Judged.{Judged}
 use Rattle.trace.specs.declared.Judged.the-variants.{Accepted, Refused}
 
+abbrev pub received : ℕ
+received = 0
+
 abbrev pub lost : ℕ
 lost = 1
 

@@ -1,0 +1,35 @@
+-- `batch::effective_loss` meets its contract. Each return is one of the cases of Answering.antt. Assumes nothing.
+use mathlib.Core.Path.{_≡_, sym, _∙_}
+use Rattle.trace.specs.declared.Judged.the-variants.{Accepted}
+use Rattle.batch.specs.Judging.{judgedFor}
+use Rattle.batch.proofs.Judging.{fit}
+use Rattle.batch.proofs.Answering.{refused, measured}
+use borrow.Author.Needs.{needs}
+use Rattle.batch.proofs.effective_loss.Statement.{statement}
+use Rattle.batch.proofs.effective_loss.Tie as tie
+
+judge-requires : tie.Need-judge-requires
+judge-requires c κs = search needs
+
+enum-told : tie.Need-enum-told
+enum-told c = search needs
+
+-- in the arm of an accepted trace
+judged : (c : tie.After-enum-told) → judgedFor (c .before .before .before .before .args .trace .now) (c .before .before .before .before .args .batch) (c .before .before .before .before .args .threshold) ≡ Accepted
+judged c = sym (c .before .before .judge .ensures) ∙ c .enum-told .given .1
+
+loss-of-requires : tie.Need-loss-of-requires
+loss-of-requires c κs = let f = fit _ _ _ (judged c) in (f .range .first .least, f .within, f .trace .most)
+
+enum-known-r : tie.Need-enum-known-r
+enum-known-r c = search needs
+
+returns : tie.Need-returns
+returns c = measured _ _ _ _ _ (judged (c .before)) (c .loss-of .ensures)
+
+returns-2 : tie.Need-returns-2
+returns-2 c = refused _ _ _ _ _ (sym (c .before .before .before .judge .ensures) ∙ c .before .r .given .1)
+
+pub effective-loss-spec : {M : Type 1} → statement M
+effective-loss-spec =
+    tie.close (tie.spec judge-requires enum-told loss-of-requires enum-known-r returns returns-2)

@@ -1,0 +1,58 @@
+-- `batch::over_from` meets its contract. The loop's invariant is `Tallied`. Assumes nothing.
+use Prim.Native.Nat.{_-_}
+use mathlib.Core.Logic.{inl, inr, ⊎-elim}
+use native.Mathlib.Omega.{arith}
+use borrow.Author.Needs.{needs}
+use lib.ListN.{length}
+use Rattle.trace.specs.Trace.{countedIn}
+use Rattle.batch.specs.Batches.{batches, over}
+use Rattle.batch.proofs.Loops.{Tallied, tallied-none, tallied-small, tallied-turn, tallied-all}
+use Rattle.batch.proofs.over_from.Statement.{statement}
+use Rattle.batch.proofs.over_from.Tie as tie
+
+abbrev Inv-loop : tie.InvT-loop
+Inv-loop event s batch threshold start n₀ j₀ n j = Tallied (over (countedIn event s) batch threshold) (batches (length s) batch) start n j
+
+abbrev μ-loop : tie.MeasureT-loop
+μ-loop event s batch threshold start n₀ j₀ n j = batches (length s) batch - j
+
+loop-holds : tie.Need-loop-holds Inv-loop μ-loop
+loop-holds c = tallied-none _ _ _ (omega arith)
+
+add-loop : tie.Need-add-loop Inv-loop μ-loop
+add-loop c = omega arith
+
+losses-in-requires : tie.Need-losses-in-requires Inv-loop μ-loop
+losses-in-requires c κs = search needs
+
+add-n : tie.Need-add-n Inv-loop μ-loop
+add-n c = omega (arith, tallied-small _ _ _ _ _ (c .before .before .before .loop .inv))
+
+add-j : tie.Need-add-j Inv-loop μ-loop
+add-j c = omega arith
+
+loop-less : tie.Need-loop-less Inv-loop μ-loop
+loop-less c = omega arith
+
+loop-again : tie.Need-loop-again Inv-loop μ-loop
+loop-again c =
+    tallied-turn _ _ _ _ _ _ _ (c .before .before .before .loop .inv) (omega arith) _ _ (c .before .losses-in .ensures)
+    (⊎-elim (λ w. inl (w .0 .taken, w .1)) (λ w. inr (w .0 .left, w .1)) (c .if1 .came))
+
+returns : tie.Need-returns Inv-loop μ-loop
+returns c = tallied-all _ _ _ _ _ (c .before .loop .inv) (omega arith)
+
+pub over-from-spec : {M : Type 1} → statement M
+over-from-spec =
+    tie.close
+    (tie.spec
+    Inv-loop
+    μ-loop
+    loop-holds
+    add-loop
+    losses-in-requires
+    add-n
+    add-j
+    loop-less
+    loop-again
+    returns)

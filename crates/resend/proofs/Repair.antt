@@ -1,0 +1,104 @@
+-- The tie to effective loss: a trace with a valid plan's packets counted as received has no batch over the
+-- threshold. Assumes nothing.
+use Prim.Native.Nat.{ℕ, zero, suc, _+_, _<_, _≤_}
+use mathlib.Core.Path.{_≡_, refl, sym, ap, _∙_}
+use mathlib.Core.Bool.{Bool, true, false, cond, _&&_, not}
+use mathlib.Core.List.{List, [], _∷_}
+use native.Mathlib.Omega.{arith}
+use native.Mathlib.Nat.{zero-mul, zero-div}
+use borrow.Author.Tests.{le-ltb}
+use lib.Dec.{eqb}
+use lib.ListN.{length, getD}
+use Rattle.settings.specs.Ranges.{batchInRange}
+use Rattle.trace.specs.declared.Event.{Event}
+use Rattle.trace.specs.declared.Event.the-variants.{Lost, Discarded}
+use Rattle.trace.specs.declared.Judged.the-variants.{Accepted}
+use Rattle.trace.specs.Sum.{bit}
+use Rattle.trace.specs.Trace.{received, packetMax, countsAs, countedIn, judged}
+use Rattle.trace.specs.Laws.{Sound}
+use Rattle.trace.proofs.Sums.{sum-same}
+use Rattle.trace.proofs.Judging.{accepted-sound, sound-accepted}
+use Rattle.batch.specs.declared.First.the-variants.{None}
+use Rattle.batch.specs.declared.LossRead.the-variants.{Loss}
+use Rattle.batch.specs.Batches.{batches, lossesIn, over, overCount}
+use Rattle.batch.specs.Loss.{lossOf, lossAnswer}
+use Rattle.batch.proofs.Judging.{accepted}
+use Rattle.batch.proofs.Counting.{count-none, none-named}
+use Rattle.batch.proofs.Answering.{measured}
+use Rattle.resend.specs.Plans.{marked, left, Valid, resent}
+use Rattle.resend.specs.Laws.{front, Plan-repairs}
+use Rattle.resend.proofs.Answering.{plan-best}
+
+-- a resent trace, packet by packet
+pub resent-length : (s p : List ℕ) → length (resent s p) ≡ length s
+unfolding resent
+resent-length [] p = refl
+resent-length (packet ∷ s) [] = refl
+resent-length (packet ∷ s) (mark ∷ p) = ap suc (resent-length s p)
+
+resent-at : (s p : List ℕ) (i : ℕ) → i < length s → getD (resent s p) i 0 ≡ cond (marked p i) received (getD s i 0)
+unfolding resent
+resent-at [] p i h = absurd (omega arith)
+resent-at (packet ∷ s) [] i h = refl
+resent-at (packet ∷ s) (mark ∷ p) zero h = refl
+resent-at (packet ∷ s) (mark ∷ p) (suc i) h = resent-at s p i (omega arith)
+
+-- no event counts a packet received
+received-uncounted : (event : Event) → countsAs event received ≡ false
+unfolding countsAs
+received-uncounted Lost = refl
+received-uncounted Discarded = refl
+
+-- what counts in a resent trace is what the plan leaves
+resent-left : (event : Event) (s p : List ℕ) (i : ℕ) → i < length s → countedIn event (resent s p) i ≡ left (countedIn event s) p i
+resent-left event s p i h = rw (resent-at s p i h) (go (marked p i) (countedIn event s i) refl)
+  where
+    go : (m x : Bool) → countedIn event s i ≡ x → countsAs event (cond m received (getD s i 0)) ≡ (x && not m)
+    go true true e = received-uncounted event
+    go true false e = received-uncounted event
+    go false true e = e
+    go false false e = e
+
+resent-sound : (s p : List ℕ) → Sound s → Sound (resent s p)
+resent-sound s p h =
+    record {
+      some = rw (resent-length s p) (h .some);
+      most = rw (resent-length s p) (h .most);
+      each = λ i l. each i (rw (← resent-length s p) l);
+    }
+  where
+    each : (i : ℕ) → i < length s → getD (resent s p) i 0 ≤ packetMax
+    each i l = rw (resent-at s p i l) (go (marked p i))
+      where
+        go : (m : Bool) → cond m received (getD s i 0) ≤ packetMax
+        go true = omega arith
+        go false = h .each i l
+
+module _ (event : Event) (s : List ℕ) (b t : ℕ) (within : b ≤ length s) (p : List ℕ) (v : Valid (countedIn event s) (length s) b t p) where
+  abbrev now-lost : ℕ → Bool
+  now-lost = countedIn event (resent s p)
+
+  none-over : (k : ℕ) → k < batches (length s) b → lossesIn now-lost b k ≤ t
+  none-over k h = rw same (v .none-over k h)
+    where
+      same : lossesIn now-lost b k ≡ lossesIn (left (countedIn event s) p) b k
+      same = sum-same _ _ k b (λ i l. ap bit (resent-left event s p (k + i) (omega arith)))
+
+  none-counted : overCount now-lost (length s) b t ≡ 0
+  unfolding overCount
+  none-counted = count-none (over now-lost b t) 0 (batches (length s) b) (λ i l h. le-ltb t (lossesIn now-lost b i) (none-over i (omega arith)))
+
+  repaired : lossOf now-lost (length s) b t ≡ record { over = 0; batches = batches (length s) b; index = 0; first = None }
+  unfolding lossOf
+  repaired = rw (none-counted, none-named now-lost (length s) b t none-counted, zero-mul, zero-div)
+
+  pub repairs : judged s ≡ Accepted → batchInRange b t ≡ true →
+      lossAnswer event (resent s p) b t ≡ Loss record { over = 0; batches = batches (length s) b; index = 0; first = None }
+  repairs good range =
+      let again = sound-accepted (resent s p) (resent-sound s p (accepted-sound s good)) in
+      let long = resent-length s p in
+      sym (measured event (resent s p) b t _ (sym (accepted (resent s p) b t range again (omega arith))) (sym (rw long repaired)))
+
+pub plan-repairs : Plan-repairs
+plan-repairs event s b t buffer good range within room =
+    repairs event s b t within (front event s b t buffer) (plan-best event s b t buffer good range within room .best .smallest .valid) good range
