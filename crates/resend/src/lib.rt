@@ -4,16 +4,15 @@ use batch::judge;
 use refusal::Refusal;
 use trace::Event;
 use trace::Judged;
+use trace::counts;
 ghost use mathlib.Core.Path.{_≡_};
-ghost use mathlib.Core.Bool.{_&&_, not};
 ghost use mathlib.Core.List.{_++_};
-ghost use Prim.Native.Nat.{_≤_};
-ghost use lib.Dec.{eqb, leb};
+ghost use Prim.Native.Nat.{_-_, _<_, _≤_};
 ghost use lib.ListN.{length, drop};
 ghost use Rattle.trace.specs.declared.Event.the-variants.{Lost};
-ghost use Rattle.trace.specs.Sum.{bit};
-ghost use Rattle.trace.specs.Trace.{countsAs};
+ghost use Rattle.trace.specs.Trace.{countedIn};
 ghost use Rattle.resend.specs.Plans.{marks};
+ghost use Rattle.resend.specs.Greedy.{leaving};
 ghost use Rattle.resend.specs.Answer.{planFor, planAnswer, bufferAfter};
 
 // What planning answers: the number of marks, or why not.
@@ -42,9 +41,9 @@ pub fn plan(trace: &[u8], batch: u32, threshold: u32, out: &mut [u8]) -> Planned
 }
 
 // The plan of the counted packets, and the number of its marks. A counted packet is marked when `threshold`
-// without a mark already stand among the `batch` - 1 packets before it; `left` is their running count.
+// without a mark already stand among the `batch` - 1 packets before it; `left` is the running count.
 fn fill(event: Event, s: &[u8], batch: usize, threshold: usize, out: &mut [u8]) -> usize
-    requires { ⌜ (1 ≤ batch) × (batch ≤ length (now s)) × (length (now s) ≤ length (now out)) ⌝ }
+    requires { ⌜ (1 ≤ batch) × (length (now s) ≤ length (now out)) ⌝ }
     ensures count { λ r. ⌜ r ≡ marks (planFor event (now (s .entry)) batch threshold) ⌝ }
     ensures buffer { λ r. ⌜ now (out .exit) ≡ planFor event (now (s .entry)) batch threshold ++ drop (length (now (s .entry))) (now (out .entry)) ⌝ }
 {
@@ -52,34 +51,36 @@ fn fill(event: Event, s: &[u8], batch: usize, threshold: usize, out: &mut [u8]) 
     let mut marks = 0;
     let mut i = 0;
     while i < s.len() {
-        let mark = mark_for(event, s[i], left, threshold);
-        out[i] = mark;
-        marks += mark as usize;
-        left += stays(event, s[i], mark);
+        let at = i;
+        left = slide(event, s, out, batch, at, left);
         i += 1;
-        if batch <= i {
-            left -= stays(event, s[i - batch], out[i - batch]);
+        if !counts(event, s[at]) {
+            out[at] = 0;
+        } else if left < threshold {
+            out[at] = 0;
+            left += 1;
+        } else {
+            out[at] = MARK;
+            marks += 1;
         }
     }
     marks
 }
 
-// The plan's byte for a packet, with `left` unmarked before it.
-fn mark_for(event: Event, packet: u8, left: usize, threshold: usize) -> u8
-    ensures { λ r. ⌜ r ≡ bit (countsAs event packet && leb threshold left) ⌝ }
+// The running count without the packet that stands `batch` before packet i.
+fn slide(event: Event, s: &[u8], plan: &[u8], batch: usize, i: usize, left: usize) -> usize
+    requires { ⌜ (1 ≤ batch) × (i < length (now s)) × (i < length (now plan)) × (leaving (countedIn event (now s)) batch (now plan) i ≤ left) ⌝ }
+    ensures { λ r. ⌜ r ≡ left - leaving (countedIn event (now (s .entry))) batch (now (plan .entry)) i ⌝ }
 {
-    if trace::counts(event, packet) & (threshold <= left) {
-        return MARK;
+    if i < batch {
+        return left;
     }
-    0
-}
-
-// 1 for a counted packet without a mark, and 0 for any other.
-fn stays(event: Event, packet: u8, mark: u8) -> usize
-    ensures { λ r. ⌜ r ≡ bit (countsAs event packet && not (eqb mark 1)) ⌝ }
-{
-    if trace::counts(event, packet) & (mark != MARK) {
-        return 1;
+    let at = i - batch;
+    if !counts(event, s[at]) {
+        return left;
     }
-    0
+    if plan[at] == MARK {
+        return left;
+    }
+    left - 1
 }

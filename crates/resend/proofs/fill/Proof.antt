@@ -1,14 +1,15 @@
--- `resend::fill` meets its contract. The loop's invariant is `Filling`; `Entered` holds once the packet is in the
--- window. Assumes nothing.
-use Prim.Native.Nat.{_+_, _-_, _≤_}
-use mathlib.Core.Path.{_≡_}
+-- `resend::fill` meets its contract. The loop's invariant is `Filling`; each arm is one of the three ways of a
+-- packet. Assumes nothing.
+use Prim.Native.Nat.{_-_, _≤_}
+use mathlib.Core.Path.{_≡_, sym, _∙_}
+use mathlib.Core.Bool.{true}
 use native.Mathlib.Omega.{arith}
 use borrow.Author.Needs.{needs}
-use lib.ListN.{length, set}
+use borrow.Author.Tests.{not-true, not-false}
+use lib.ListN.{length}
 use Rattle.trace.specs.Trace.{countedIn}
-use Rattle.trace.proofs.Sums.{bit-le}
 use Rattle.resend.specs.Answer.{planFor}
-use Rattle.resend.proofs.Filling.{Filling, Entered, filling-none, filling-length, entered-length, filling-small, enters, stays-in, leaves-some, leaves, filling-all}
+use Rattle.resend.proofs.Filling.{Filling, filling-none, filling-length, filling-small, slid-some, slid-small, enters-fine, enters-left, enters-marked, filling-all}
 use Rattle.resend.proofs.fill.Statement.{statement}
 use Rattle.resend.proofs.fill.Tie as tie
 
@@ -18,82 +19,67 @@ Inv-loop event s batch threshold out₀ left₀ marks₀ i₀ out left marks i =
 abbrev μ-loop : tie.MeasureT-loop
 μ-loop event s batch threshold out₀ left₀ marks₀ i₀ out left marks i = length s - i
 
--- the packet has entered the window
-entered : (c : tie.After-stays Inv-loop μ-loop) →
-    Entered (countedIn (c .before .before .before .before .before .before .before .before .args .event) (c .before .before .before .before .before .before .before .before .args .s .now))
-    (c .before .before .before .before .before .before .before .before .args .batch) (c .before .before .before .before .before .before .before .before .args .threshold)
-    (length (c .before .before .before .before .before .before .before .before .args .s .now)) (c .before .before .before .before .before .before .before .before .args .out .now)
-    (set (c .before .before .before .before .before .loop .out) (c .before .before .before .before .before .loop .i) (c .before .before .mark-for .result))
-    (c .before .before .before .before .before .loop .left + c .stays .result) (c .before .before .before .before .before .loop .marks + c .before .before .mark-for .result)
-    (c .before .before .before .before .before .loop .i)
-entered c = enters _ _ _ _ _ _ _ _ _ (c .before .before .before .before .before .loop .inv) (omega arith) _ (c .before .before .mark-for .ensures) _ (c .stays .ensures)
-
--- both counts are at most the number of packets so far, and a mark is at most 1
-small : (c : tie.At-loop Inv-loop μ-loop) → (c .loop .left ≤ c .loop .i) × (c .loop .marks ≤ c .loop .i)
-small c = filling-small _ _ _ _ _ _ _ _ _ (c .loop .inv)
-
-mark-small : (c : tie.After-mark-for Inv-loop μ-loop) → c .mark-for .result ≤ 1
-mark-small c = rw (c .mark-for .ensures) (bit-le _)
-
-stays-small : (c : tie.After-stays Inv-loop μ-loop) → c .stays .result ≤ 1
-stays-small c = rw (c .stays .ensures) (bit-le _)
-
 long : (c : tie.At-loop Inv-loop μ-loop) → length (c .loop .out) ≡ length (c .before .before .before .args .out .now)
 long c = filling-length _ _ _ _ _ _ _ _ _ (c .loop .inv)
 
+-- both counts are at most the number of packets so far
+few-left : (c : tie.After-slide Inv-loop μ-loop) → c .slide .result ≤ c .before .before .before .loop .i
+few-left c = rw (c .slide .ensures) (slid-small _ _ _ _ _ _ _ _ _ (c .before .before .before .loop .inv))
+
+few-marks : (c : tie.At-loop Inv-loop μ-loop) → c .loop .marks ≤ c .loop .i
+few-marks c = filling-small _ _ _ _ _ _ _ _ _ (c .loop .inv)
+
+-- in the other two arms the packet is counted
+is-counted : (c : tie.Else1 Inv-loop μ-loop) → countedIn (c .before .before .before .before .before .before .before .before .before .args .event) (c .before .before .before .before .before .before .before .before .before .args .s .now) (c .before .before .before .before .before .before .loop .i) ≡ true
+is-counted c = sym (c .before .counts .ensures) ∙ not-false (c .before .counts .result) (c .if1 .left)
+
 loop-holds : tie.Need-loop-holds Inv-loop μ-loop
-loop-holds c = filling-none _ _ _ _ _ (c .before .before .pre .0) (c .before .before .pre .2)
+loop-holds c = filling-none _ _ _ _ _ (c .before .before .pre .0) (c .before .before .pre .1)
 
-shared-slice-read-mark-for : tie.Need-shared-slice-read-mark-for Inv-loop μ-loop
-shared-slice-read-mark-for c = omega arith
-
-mark-for-requires : tie.Need-mark-for-requires Inv-loop μ-loop
-mark-for-requires c κs = search needs
-
-slice-write-out : tie.Need-slice-write-out Inv-loop μ-loop
-slice-write-out c = omega (arith, long (c .before .before .before), c .before .before .before .before .before .before .pre .2)
-
-cast-marks : tie.Need-cast-marks Inv-loop μ-loop
-cast-marks c = omega (arith, mark-small c)
-
-add-marks : tie.Need-add-marks Inv-loop μ-loop
-add-marks c = omega (arith, mark-small c, small (c .before .before .before))
-
-shared-slice-read-stays : tie.Need-shared-slice-read-stays Inv-loop μ-loop
-shared-slice-read-stays c = omega arith
-
-stays-requires : tie.Need-stays-requires Inv-loop μ-loop
-stays-requires c κs = search needs
-
-add-left : tie.Need-add-left Inv-loop μ-loop
-add-left c = omega (arith, stays-small c, small (c .before .before .before .before .before))
+slide-requires : tie.Need-slide-requires Inv-loop μ-loop
+slide-requires c κs = (c .before .before .before .before .before .pre .0, omega arith, omega (arith, long (c .before .before), c .before .before .before .before .before .pre .1), slid-some _ _ _ _ _ _ _ _ _ (c .before .before .loop .inv))
 
 add-i : tie.Need-add-i Inv-loop μ-loop
 add-i c = omega arith
 
-shared-slice-read-stays-2 : tie.Need-shared-slice-read-stays-2 Inv-loop μ-loop
-shared-slice-read-stays-2 c = omega arith
+shared-slice-read-counts : tie.Need-shared-slice-read-counts Inv-loop μ-loop
+shared-slice-read-counts c = omega arith
 
-slice-read-stays : tie.Need-slice-read-stays Inv-loop μ-loop
-slice-read-stays c = omega (arith, entered-length _ _ _ _ _ _ _ _ _ (entered (c .before .before .before)), c .before .before .before .before .before .before .before .before .before .before .before .pre .2)
+counts-requires : tie.Need-counts-requires Inv-loop μ-loop
+counts-requires c κs = search needs
 
-stays-requires-2 : tie.Need-stays-requires-2 Inv-loop μ-loop
-stays-requires-2 c κs = search needs
-
-sub-left : tie.Need-sub-left Inv-loop μ-loop
-sub-left c = leaves-some _ _ _ _ _ _ _ _ _ (entered (c .before .before .before .before)) (omega arith) _ (c .stays2 .ensures)
+slice-write-out : tie.Need-slice-write-out Inv-loop μ-loop
+slice-write-out c = omega (arith, long (c .before .before .before .before .before .before), c .before .before .before .before .before .before .before .before .before .pre .1)
 
 loop-less : tie.Need-loop-less Inv-loop μ-loop
 loop-less c = omega arith
 
 loop-again : tie.Need-loop-again Inv-loop μ-loop
-loop-again c = leaves _ _ _ _ _ _ _ _ _ (entered (c .before .before .before .before)) (omega arith) _ (c .stays2 .ensures)
+loop-again c = enters-fine _ _ _ _ _ _ _ _ _ (c .before .before .before .before .before .before .loop .inv) (omega arith) _ (c .before .before .before .slide .ensures) (sym (c .before .counts .ensures) ∙ not-true (c .before .counts .result) (c .if1 .taken))
+
+slice-write-out-2 : tie.Need-slice-write-out-2 Inv-loop μ-loop
+slice-write-out-2 c = omega (arith, long (c .before .before .before .before .before .before .before), c .before .before .before .before .before .before .before .before .before .before .pre .1)
+
+add-left : tie.Need-add-left Inv-loop μ-loop
+add-left c = omega (arith, few-left (c .before .before .before .before))
 
 loop-less-2 : tie.Need-loop-less-2 Inv-loop μ-loop
 loop-less-2 c = omega arith
 
 loop-again-2 : tie.Need-loop-again-2 Inv-loop μ-loop
-loop-again-2 c = stays-in _ _ _ _ _ _ _ _ _ (entered (c .before)) (omega arith)
+loop-again-2 c = enters-left _ _ _ _ _ _ _ _ _ (c .before .before .before .before .before .before .before .loop .inv) (omega arith) _ (c .before .before .before .before .slide .ensures) (is-counted (c .before)) (c .if2 .taken)
+
+slice-write-out-3 : tie.Need-slice-write-out-3 Inv-loop μ-loop
+slice-write-out-3 c = omega (arith, long (c .before .before .before .before .before .before .before), c .before .before .before .before .before .before .before .before .before .before .pre .1)
+
+add-marks : tie.Need-add-marks Inv-loop μ-loop
+add-marks c = omega (arith, few-marks (c .before .before .before .before .before .before .before))
+
+loop-less-3 : tie.Need-loop-less-3 Inv-loop μ-loop
+loop-less-3 c = omega arith
+
+loop-again-3 : tie.Need-loop-again-3 Inv-loop μ-loop
+loop-again-3 c = enters-marked _ _ _ _ _ _ _ _ _ (c .before .before .before .before .before .before .before .loop .inv) (omega arith) _ (c .before .before .before .before .slide .ensures) (is-counted (c .before)) (c .if2 .left)
 
 same-length : tie.Need-same-length Inv-loop μ-loop
 same-length c = long (c .before)
@@ -109,22 +95,20 @@ fill-spec =
     Inv-loop
     μ-loop
     loop-holds
-    shared-slice-read-mark-for
-    mark-for-requires
-    slice-write-out
-    cast-marks
-    add-marks
-    shared-slice-read-stays
-    stays-requires
-    add-left
+    slide-requires
     add-i
-    shared-slice-read-stays-2
-    slice-read-stays
-    stays-requires-2
-    sub-left
+    shared-slice-read-counts
+    counts-requires
+    slice-write-out
     loop-less
     loop-again
+    slice-write-out-2
+    add-left
     loop-less-2
     loop-again-2
+    slice-write-out-3
+    add-marks
+    loop-less-3
+    loop-again-3
     same-length
     returns)

@@ -25,7 +25,7 @@ returns : tie.Need-returns
 returns c = too-short _ _ _ _ _ (judged (c .before)) (c .if1 .taken)
 
 fill-requires : tie.Need-fill-requires
-fill-requires c κs = (fits (c .before .before) .range .first .least, fits (c .before .before) .within, c .before .if1 .left)
+fill-requires c κs = (fits (c .before .before) .range .first .least, c .before .if1 .left)
 
 enum-known-r : tie.Need-enum-known-r
 enum-known-r c = search needs
