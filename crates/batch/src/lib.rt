@@ -122,12 +122,12 @@ fn over_from(event: Event, s: &[u8], batch: usize, threshold: usize, start: usiz
     ensures { λ r. ⌜ r ≡ count (over (countedIn event (now (s .entry))) batch threshold) start (batches (length (now (s .entry))) batch - start) ⌝ }
 {
     let mut n = 0;
-    let mut j = start;
-    while j + batch <= s.len() {
-        if threshold < losses_in(event, s, batch, j) {
+    let mut m = start;
+    while m + batch <= s.len() {
+        if threshold < losses_in(event, s, batch, m) {
             n += 1;
         }
-        j += 1;
+        m += 1;
     }
     n
 }

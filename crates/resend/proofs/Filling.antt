@@ -7,7 +7,7 @@ use mathlib.Core.List.{List, [], _∷_, _++_}
 use native.Mathlib.Omega.{arith}
 use native.Mathlib.Decide.{decLe}
 use native.Mathlib.Numerals.{add-one}
-use borrow.Author.Tests.{le-leb, lt-leb, ne-eqb}
+use borrow.Author.Tests.{le-leb, lt-leb}
 use lib.Dec.{leb, eqb}
 use lib.ListN.{length, getD, set, drop, length-append, length-drop, List·getD-append}
 use lib.Seq.{drop-cons, set-at, append-snoc}
@@ -29,17 +29,13 @@ module _ (lost : ℕ → Bool) (b : ℕ) (p : List ℕ) (i : ℕ) where
   unfolding leaving
   leaves-there h = rw (le-leb b i h)
 
-  pub leaves-fine : b ≤ i → lost (i - b) ≡ false → leaving lost b p i ≡ 0
+  pub leaves-one : b ≤ i → left lost p (i - b) ≡ true → leaving lost b p i ≡ 1
   unfolding bit
-  leaves-fine h l = leaves-there h ∙ rw l
+  leaves-one h l = leaves-there h ∙ rw l
 
-  pub leaves-marked : b ≤ i → lost (i - b) ≡ true → getD p (i - b) 0 ≡ 1 → leaving lost b p i ≡ 0
+  pub leaves-other : b ≤ i → left lost p (i - b) ≡ false → leaving lost b p i ≡ 0
   unfolding bit
-  leaves-marked h l m = leaves-there h ∙ rw (l, m)
-
-  pub leaves-one : b ≤ i → lost (i - b) ≡ true → (getD p (i - b) 0 ≡ 1 → ⊥) → leaving lost b p i ≡ 1
-  unfolding bit
-  leaves-one h l m = leaves-there h ∙ rw (l, ne-eqb (getD p (i - b) 0) 1 m)
+  leaves-other h l = leaves-there h ∙ rw l
 
   -- the count without it
   pub slides-none : (n : ℕ) → leaving lost b p i ≡ 0 → n ≡ n - leaving lost b p i

@@ -52,8 +52,8 @@ fn fill(event: Event, s: &[u8], batch: usize, threshold: usize, out: &mut [u8]) 
     let mut i = 0;
     while i < s.len() {
         let at = i;
-        left = slide(event, s, out, batch, at, left);
         i += 1;
+        left = slide(event, s, out, batch, at, left);
         if !counts(event, s[at]) {
             out[at] = 0;
         } else if left < threshold {
@@ -76,11 +76,8 @@ fn slide(event: Event, s: &[u8], plan: &[u8], batch: usize, i: usize, left: usiz
         return left;
     }
     let at = i - batch;
-    if !counts(event, s[at]) {
-        return left;
+    if counts(event, s[at]) & (plan[at] != MARK) {
+        return left - 1;
     }
-    if plan[at] == MARK {
-        return left;
-    }
-    left - 1
+    left
 }

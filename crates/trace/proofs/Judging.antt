@@ -1,13 +1,14 @@
 -- The cases of judging a trace, and what its answer says. Assumes nothing.
 use Prim.Native.Nat.{ℕ, zero, suc, _+_, _<_, _≤_}
-use mathlib.Core.Path.{_≡_, refl}
-use mathlib.Core.Bool.{Bool, true, false, _&&_}
+use mathlib.Core.Path.{_≡_, refl, sym, _∙_}
+use mathlib.Core.Bool.{Bool, true, false, _&&_, _||_}
 use mathlib.Core.List.{List, [], _∷_}
 use native.Mathlib.Omega.{arith}
+use native.Mathlib.Decide.{decLt, ℕ-discrete}
 use native.Mathlib.Numerals.{add-one}
-use borrow.Author.Tests.{leb-true, leb-false, le-leb, lt-leb}
-use lib.Dec.{leb}
-use lib.ListN.{length, getD, drop}
+use borrow.Author.Tests.{ltb-true, ltb-false, leb-true, leb-false, le-leb, lt-leb, lt-ltb, le-ltb}
+use lib.Dec.{leb, ltb}
+use lib.ListN.{length, getD, drop, drop-of-length-le}
 use lib.Seq.{drop-cons}
 use Rattle.refusal.specs.Answer.{unless}
 use Rattle.refusal.specs.Table.{traceLength, traceByte}
@@ -38,32 +39,15 @@ in-range : (s : List ℕ) → traceMin ≤ length s → length s ≤ traceMax �
 unfolding lengthInRange
 in-range s some most = both (leb traceMin (length s)) (leb (length s) traceMax) (le-leb traceMin (length s) some) (le-leb (length s) traceMax most)
 
--- the length is in range and the first i bytes are good: the loop's invariant
-pub record Good (s : List ℕ) (i : ℕ) : Type 0 where
-  pub length-right : lengthInRange s ≡ true
-  pub within : i ≤ length s
-  pub rest : firstBad s ≡ i + firstBad (drop i s)
+-- the bytes, once the length is in range
+module _ (s : List ℕ) (some : traceMin ≤ length s) (most : length s ≤ traceMax) where
+  pub bad-byte : ltb (firstBad s) (length s) ≡ true → Refused (traceByte (firstBad s)) ≡ judged s
+  unfolding judged
+  bad-byte h = rw (in-range s some most, lt-leb (length s) (firstBad s) (ltb-true (firstBad s) (length s) h))
 
-pub good-none : (s : List ℕ) → traceMin ≤ length s → length s ≤ traceMax → Good s 0
-good-none s some most = record { length-right = in-range s some most; within = omega arith; rest = omega arith }
-
-pub good-more : (s : List ℕ) (i : ℕ) → Good s i → i < length s → getD s i 0 ≤ packetMax → Good s (i + 1)
-good-more s i g l h =
-    let later : firstBad (drop i s) ≡ suc (firstBad (drop (suc i) s)) = rw (drop-cons s i 0 l, bad-later (getD s i 0) (drop (suc i) s) h) in
-    let rest = g .rest in
-    record { length-right = g .length-right; within = omega arith; rest = rw add-one (omega arith) }
-
-pub good-bad : (s : List ℕ) (i : ℕ) → Good s i → i < length s → packetMax < getD s i 0 → Refused (traceByte i) ≡ judged s
-unfolding judged
-good-bad s i g l h =
-    let none : firstBad (drop i s) ≡ 0 = rw (drop-cons s i 0 l, bad-here (getD s i 0) (drop (suc i) s) h) in
-    let rest = g .rest in
-    let here : firstBad s ≡ i = omega arith in
-    rw (g .length-right, here, lt-leb (length s) i l)
-
-pub good-all : (s : List ℕ) (i : ℕ) → Good s i → length s ≤ i → Accepted ≡ judged s
-unfolding judged
-good-all s i g h = rw (g .length-right, le-leb (length s) (firstBad s) (let rest = g .rest in omega arith))
+  pub all-good : ltb (firstBad s) (length s) ≡ false → Accepted ≡ judged s
+  unfolding judged
+  all-good h = rw (in-range s some most, le-leb (length s) (firstBad s) (ltb-false (firstBad s) (length s) h))
 
 -- what the first bad byte is
 before-bad : (s : List ℕ) (i : ℕ) → i < firstBad s → getD s i 0 ≤ packetMax
@@ -87,6 +71,55 @@ at-bad (packet ∷ s) h = go (leb packet packetMax) refl (at-bad s)
 
 pub first-bad : First-bad
 first-bad s h = record { bad = at-bad s h; before = before-bad s }
+
+-- Searching for it: the first i bytes are good.
+pub record Good (s : List ℕ) (i : ℕ) : Type 0 where
+  pub within : i ≤ length s
+  pub rest : firstBad s ≡ i + firstBad (drop i s)
+
+pub good-none : (s : List ℕ) → Good s 0
+good-none s = record { within = omega arith; rest = omega arith }
+
+module _ (s : List ℕ) (i : ℕ) (g : Good s i) where
+  pub good-more : i < length s → getD s i 0 ≤ packetMax → Good s (i + 1)
+  good-more l h =
+      let later : firstBad (drop i s) ≡ suc (firstBad (drop (suc i) s)) = rw (drop-cons s i 0 l, bad-later (getD s i 0) (drop (suc i) s) h) in
+      let rest = g .rest in
+      record { within = omega arith; rest = rw add-one (omega arith) }
+
+  pub good-bad : i < length s → packetMax < getD s i 0 → i ≡ firstBad s
+  good-bad l h =
+      let none : firstBad (drop i s) ≡ 0 = rw (drop-cons s i 0 l, bad-here (getD s i 0) (drop (suc i) s) h) in
+      omega (arith, g .rest)
+
+  pub good-all : length s ≤ i → i ≡ firstBad s
+  unfolding firstBad
+  good-all h =
+      let none : firstBad (drop i s) ≡ 0 = rw (drop-of-length-le s h) in
+      omega (arith, g .rest)
+
+-- Asking whether there is one: `found` says whether it is among the first i bytes.
+pub record Asked (s : List ℕ) (found : Bool) (i : ℕ) : Type 0 where
+  pub within : i ≤ length s
+  pub answer : found ≡ ltb (firstBad s) i
+
+pub asked-none : (s : List ℕ) → Asked s false 0
+asked-none s = record { within = omega arith; answer = sym (le-ltb (firstBad s) 0 (omega arith)) }
+
+pub asked-more : (s : List ℕ) (found : Bool) (i : ℕ) → Asked s found i → i < length s → Asked s (found || ltb packetMax (getD s i 0)) (i + 1)
+asked-more s found i a l = record { within = omega arith; answer = rw (a .answer) (go (decLt (firstBad s) i) (ℕ-discrete (firstBad s) i)) }
+  where
+    go : Dec (firstBad s < i) → Dec (firstBad s ≡ i) → (ltb (firstBad s) i || ltb packetMax (getD s i 0)) ≡ ltb (firstBad s) (i + 1)
+    go (yes before) d = rw (lt-ltb (firstBad s) i before, lt-ltb (firstBad s) (i + 1) (omega arith))
+    go (no later) (yes here) =
+        let bad : packetMax < getD s i 0 = rw (← here) (at-bad s (omega arith)) in
+        rw (le-ltb (firstBad s) i (omega arith), lt-ltb packetMax (getD s i 0) bad, lt-ltb (firstBad s) (i + 1) (omega arith))
+    go (no later) (no other) =
+        let fine = before-bad s i (omega arith) in
+        rw (le-ltb (firstBad s) i (omega arith), le-ltb packetMax (getD s i 0) fine, le-ltb (firstBad s) (i + 1) (omega arith))
+
+pub asked-all : (s : List ℕ) (found : Bool) (i : ℕ) → Asked s found i → length s ≤ i → found ≡ ltb (firstBad s) (length s)
+asked-all s found i a h = let end : i ≡ length s = omega (arith, a .within) in a .answer ∙ rw end
 
 -- what an accepted trace is
 pub accepted-sound : Accepted-sound

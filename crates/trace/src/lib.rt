@@ -2,7 +2,9 @@
 // accepted or refused as a whole, and a call counts one kind of event in it.
 use refusal::Refusal;
 ghost use mathlib.Core.Path.{_≡_};
-ghost use Rattle.trace.specs.Trace.{countsAs, judged};
+ghost use lib.Dec.{ltb};
+ghost use lib.ListN.{length};
+ghost use Rattle.trace.specs.Trace.{countsAs, firstBad, judged};
 
 pub const LOST: u8 = 1;
 
@@ -48,12 +50,35 @@ pub fn judge(trace: &[u8]) -> Judged
     if TRACE_MAX < trace.len() {
         return Judged::Refused(refusal::TRACE_LENGTH);
     }
+    if has_bad(trace) {
+        return Judged::Refused(refusal::trace_byte(first_bad(trace)));
+    }
+    Judged::Accepted
+}
+
+// Whether a byte is above PACKET_MAX. Nothing leaves this loop early, so that it is compiled to many bytes a step.
+fn has_bad(s: &[u8]) -> bool
+    ensures { λ r. ⌜ r ≡ ltb (firstBad (now (s .entry))) (length (now (s .entry))) ⌝ }
+{
+    let mut found = false;
     let mut i = 0;
-    while i < trace.len() {
-        if PACKET_MAX < trace[i] {
-            return Judged::Refused(refusal::trace_byte(i));
+    while i < s.len() {
+        found = found | (PACKET_MAX < s[i]);
+        i += 1;
+    }
+    found
+}
+
+// Where the first byte above PACKET_MAX stands; the length, where there is none.
+fn first_bad(s: &[u8]) -> usize
+    ensures { λ r. ⌜ r ≡ firstBad (now (s .entry)) ⌝ }
+{
+    let mut i = 0;
+    while i < s.len() {
+        if PACKET_MAX < s[i] {
+            return i;
         }
         i += 1;
     }
-    Judged::Accepted
+    i
 }

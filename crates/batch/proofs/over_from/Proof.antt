@@ -11,10 +11,10 @@ use Rattle.batch.proofs.over_from.Statement.{statement}
 use Rattle.batch.proofs.over_from.Tie as tie
 
 abbrev Inv-loop : tie.InvT-loop
-Inv-loop event s batch threshold start n₀ j₀ n j = Tallied (over (countedIn event s) batch threshold) (batches (length s) batch) start n j
+Inv-loop event s batch threshold start n₀ m₀ n m = Tallied (over (countedIn event s) batch threshold) (batches (length s) batch) start n m
 
 abbrev μ-loop : tie.MeasureT-loop
-μ-loop event s batch threshold start n₀ j₀ n j = batches (length s) batch - j
+μ-loop event s batch threshold start n₀ m₀ n m = batches (length s) batch - m
 
 loop-holds : tie.Need-loop-holds Inv-loop μ-loop
 loop-holds c = tallied-none _ _ _ (omega arith)
@@ -28,8 +28,8 @@ losses-in-requires c κs = search needs
 add-n : tie.Need-add-n Inv-loop μ-loop
 add-n c = omega (arith, tallied-small _ _ _ _ _ (c .before .before .before .loop .inv))
 
-add-j : tie.Need-add-j Inv-loop μ-loop
-add-j c = omega arith
+add-m : tie.Need-add-m Inv-loop μ-loop
+add-m c = omega arith
 
 loop-less : tie.Need-loop-less Inv-loop μ-loop
 loop-less c = omega arith
@@ -52,7 +52,7 @@ over-from-spec =
     add-loop
     losses-in-requires
     add-n
-    add-j
+    add-m
     loop-less
     loop-again
     returns)

@@ -36,11 +36,11 @@ is-counted c = sym (c .before .counts .ensures) ∙ not-false (c .before .counts
 loop-holds : tie.Need-loop-holds Inv-loop μ-loop
 loop-holds c = filling-none _ _ _ _ _ (c .before .before .pre .0) (c .before .before .pre .1)
 
-slide-requires : tie.Need-slide-requires Inv-loop μ-loop
-slide-requires c κs = (c .before .before .before .before .before .pre .0, omega arith, omega (arith, long (c .before .before), c .before .before .before .before .before .pre .1), slid-some _ _ _ _ _ _ _ _ _ (c .before .before .loop .inv))
-
 add-i : tie.Need-add-i Inv-loop μ-loop
 add-i c = omega arith
+
+slide-requires : tie.Need-slide-requires Inv-loop μ-loop
+slide-requires c κs = (c .before .before .before .before .before .pre .0, omega arith, omega (arith, long (c .before .before), c .before .before .before .before .before .pre .1), slid-some _ _ _ _ _ _ _ _ _ (c .before .before .loop .inv))
 
 shared-slice-read-counts : tie.Need-shared-slice-read-counts Inv-loop μ-loop
 shared-slice-read-counts c = omega arith
@@ -95,8 +95,8 @@ fill-spec =
     Inv-loop
     μ-loop
     loop-holds
-    slide-requires
     add-i
+    slide-requires
     shared-slice-read-counts
     counts-requires
     slice-write-out
