@@ -1,0 +1,2 @@
+// tally
+pub fn one() -> u32 { 1 }
