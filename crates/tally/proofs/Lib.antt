@@ -1,1 +1,6 @@
-pub mod Groups
+pub mod Limits
+pub mod Turns
+pub mod Holding
+pub mod Kept
+pub mod Reached
+pub mod Running

@@ -1,1 +1,3 @@
-pub mod Groups
+pub mod Tally
+pub mod Steps
+pub mod Laws

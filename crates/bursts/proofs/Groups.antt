@@ -7,7 +7,7 @@ use native.Mathlib.Omega.{arith}
 use native.Mathlib.Nat.{add-zero, zero-add, add-suc}
 use lib.Dec.{leb, ltb}
 use lib.ListN.{length}
-use Rattle.tally.specs.Groups.{eventsFrom, eventsAt, Group, alone, between, grouped, groups, isBurst, bursts, total}
+use Rattle.bursts.specs.Groups.{eventsFrom, eventsAt, Group, alone, between, grouped, groups, isBurst, bursts, total}
 
 -- the events of a trace with one more packet
 more-from : (event : ℕ → Bool) (at : ℕ) (s : List ℕ) (packet : ℕ) →

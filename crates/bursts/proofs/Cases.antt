@@ -1,0 +1,62 @@
+-- The cases of a figure: unavailable, over range, or the number; and how large a rate is. Assumes nothing.
+use Prim.Native.Nat.{ℕ, _-_, _*_, _/_, _<_, _≤_}
+use mathlib.Core.Path.{_≡_, refl, sym, ap, _∙_}
+use mathlib.Core.Bool.{true, false}
+use native.Mathlib.Omega.{arith}
+use native.Mathlib.Nat.{mul-comm, mul-le-mul-right, div-le-of-le-mul}
+use borrow.Author.Tests.{le-leb, lt-leb, eq-eqb, ne-eqb}
+use Rattle.refusal.specs.Table.{setting}
+use Rattle.bursts.specs.declared.Sums.{Sums}
+use Rattle.bursts.specs.declared.Figures.{Figures}
+use Rattle.bursts.specs.declared.Measured.the-variants.{Accepted, Refused}
+use Rattle.bursts.specs.Groups.{square}
+use Rattle.bursts.specs.Sums.{meanDuration, sumsSound}
+use Rattle.bursts.specs.Figures.{rateOne, measureMax, overRange, unavailable, rateOf, ranged, meanOf, varianceOf, figuresOf, measuredOf}
+
+pub no-rate : (events packets : ℕ) → packets ≡ 0 → unavailable ≡ rateOf events packets
+unfolding rateOf
+no-rate events packets h = rw (eq-eqb packets 0 h)
+
+pub some-rate : (events packets : ℕ) → (packets ≡ 0 → ⊥) → events * rateOne / packets ≡ rateOf events packets
+unfolding rateOf
+some-rate events packets h = rw (ne-eqb packets 0 h)
+
+-- a rate is at most one event for each packet
+pub rate-small : (events packets : ℕ) → events ≤ packets → events * rateOne / packets ≤ rateOne
+rate-small events packets h = div-le-of-le-mul packets (mul-le-mul-right rateOne h)
+
+pub over : (measure : ℕ) → measureMax < measure → overRange ≡ ranged measure
+unfolding ranged
+over measure h = rw (lt-leb measure measureMax h)
+
+pub within : (measure : ℕ) → measure ≤ measureMax → measure ≡ ranged measure
+unfolding ranged
+within measure h = rw (le-leb measure measureMax h)
+
+module _ (s : Sums) where
+  module _ (none : s .bursts ≡ 0) where
+    pub no-mean : unavailable ≡ meanOf s
+    unfolding meanOf
+    no-mean = rw (eq-eqb (s .bursts) 0 none)
+
+    pub no-variance : unavailable ≡ varianceOf s
+    unfolding varianceOf
+    no-variance = rw (eq-eqb (s .bursts) 0 none)
+
+  module _ (some : s .bursts ≡ 0 → ⊥) where
+    pub some-mean : ranged (meanDuration s) ≡ meanOf s
+    unfolding meanOf
+    some-mean = rw (ne-eqb (s .bursts) 0 some)
+
+    pub some-variance : ranged (s .squares / s .bursts - square (meanDuration s)) ≡ varianceOf s
+    unfolding varianceOf
+    some-variance = rw (ne-eqb (s .bursts) 0 some)
+
+-- sums that are sound, and sums that are not
+pub refused : (s : Sums) → sumsSound s ≡ false → Refused setting ≡ measuredOf s
+unfolding measuredOf
+refused s h = rw h
+
+pub accepted : (s : Sums) (f : Figures) → sumsSound s ≡ true → f ≡ figuresOf s → Accepted f ≡ measuredOf s
+unfolding measuredOf
+accepted s f h e = rw (h, e)

@@ -1,0 +1,54 @@
+-- The figures of the seven sums: document 01, "The trace and its figures", and "The packet" on what is sent for
+-- a figure that is unavailable or over range.
+use Prim.Native.Nat.{ℕ, _-_, _*_, _/_}
+use mathlib.Core.Bool.{cond}
+use lib.Dec.{eqb, leb}
+use Rattle.refusal.specs.Table.{setting}
+use Rattle.refusal.specs.Answer.{unless}
+use Rattle.bursts.specs.declared.Sums.{Sums}
+use Rattle.bursts.specs.declared.Figures.{Figures}
+use Rattle.bursts.specs.declared.Measured.{Measured}
+use Rattle.bursts.specs.declared.Measured.the-variants.{Accepted, Refused}
+use Rattle.bursts.specs.Groups.{square}
+use Rattle.bursts.specs.Sums.{meanDuration, sumsSound}
+
+abbrev pub rateOne : ℕ
+rateOne = 32_768
+
+abbrev pub measureMax : ℕ
+measureMax = 65_533
+
+abbrev pub overRange : ℕ
+overRange = 65_534
+
+abbrev pub unavailable : ℕ
+unavailable = 65_535
+
+-- "integer part of Lb × 32768 / Eb; unavailable if Eb is 0"
+unfoldable pub rateOf : ℕ → ℕ → ℕ
+rateOf events packets = cond (eqb packets 0) unavailable (events * rateOne / packets)
+
+-- "above 65,533 sent as over range"
+unfoldable pub ranged : ℕ → ℕ
+ranged measure = cond (leb measure measureMax) measure overRange
+
+-- "mean m is the integer part of S / n; .. unavailable if n is 0"
+unfoldable pub meanOf : Sums → ℕ
+meanOf s = cond (eqb (s .bursts) 0) unavailable (ranged (meanDuration s))
+
+-- "variance is the integer part of Q / n, less m × m; .. unavailable if n is 0; .. (m × m uses m before that)"
+unfoldable pub varianceOf : Sums → ℕ
+varianceOf s = cond (eqb (s .bursts) 0) unavailable (ranged (s .squares / s .bursts - square (meanDuration s)))
+
+unfoldable pub figuresOf : Sums → Figures
+figuresOf s =
+    record {
+      «burst_rate» = rateOf (s .«burst_events») (s .«burst_packets»);
+      «gap_rate» = rateOf (s .events - s .«burst_events») (s .packets - s .«burst_packets»);
+      «burst_mean» = meanOf s;
+      «burst_variance» = varianceOf s;
+    }
+
+-- sums that are not sound are refused as a tally that is not
+unfoldable pub measuredOf : Sums → Measured
+measuredOf s = unless (sumsSound s) (Refused setting) (Accepted (figuresOf s))

@@ -1,0 +1,4 @@
+pub mod Groups
+pub mod Sums
+pub mod Figures
+pub mod Steps

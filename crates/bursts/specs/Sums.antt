@@ -1,0 +1,51 @@
+-- The seven sums of a trace, E, L, Eb, Lb, n, S and Q, and when sums are sound: document 01, "The trace and its
+-- figures".
+use Prim.Native.Nat.{ℕ, _-_, _*_, _/_}
+use mathlib.Core.Bool.{Bool, _&&_, _||_}
+use mathlib.Core.List.{List}
+use lib.Dec.{eqb, leb}
+use lib.ListN.{length}
+use Rattle.trace.specs.Trace.{traceMax}
+use Rattle.bursts.specs.declared.Sums.{Sums}
+use Rattle.bursts.specs.Groups.{eventsAt, Group, groups, bursts, packetsOf, duration, square, total}
+
+-- the sums of E packets with these groups of L events
+unfoldable pub sumsOver : ℕ → ℕ → ℕ → List Group → Sums
+sumsOver spacing E L gs =
+    record {
+      packets = E;
+      events = L;
+      «burst_packets» = total packetsOf (bursts gs);
+      «burst_events» = total (λ b. b .events) (bursts gs);
+      bursts = length (bursts gs);
+      durations = total (λ b. duration spacing (packetsOf b)) (bursts gs);
+      squares = total (λ b. square (duration spacing (packetsOf b))) (bursts gs);
+    }
+
+-- the sums of a trace
+abbrev pub sumsOf : (ℕ → Bool) → ℕ → ℕ → List ℕ → Sums
+sumsOf event gmin spacing s = sumsOver spacing (length s) (length (eventsAt event s)) (groups gmin (eventsAt event s))
+
+-- m, the mean before any cap
+abbrev pub meanDuration : Sums → ℕ
+meanDuration s = s .durations / s .bursts
+
+abbrev pub durationsMax : ℕ
+durationsMax = 2_621_440
+
+-- "A tally is sound when, with its open stretch counted in: .. E ≤ 65,536, Eb ≤ E, Lb ≤ Eb, Lb ≤ L,
+-- L − Lb ≤ E − Eb, 2n ≤ Eb, .."
+unfoldable pub countsSound : Sums → Bool
+countsSound s =
+    leb (s .packets) traceMax && leb (s .«burst_packets») (s .packets) && leb (s .«burst_events») (s .«burst_packets»)
+    && leb (s .«burst_events») (s .events) && leb (s .events - s .«burst_events») (s .packets - s .«burst_packets»)
+    && leb (2 * s .bursts) (s .«burst_packets»)
+
+-- ".. S ≤ 2,621,440, Q ≤ S × S, and the integer part of Q / n is at least m × m (if n is not 0)."
+unfoldable pub durationsSound : Sums → Bool
+durationsSound s =
+    leb (s .durations) durationsMax && leb (s .squares) (square (s .durations))
+    && (eqb (s .bursts) 0 || leb (square (meanDuration s)) (s .squares / s .bursts))
+
+unfoldable pub sumsSound : Sums → Bool
+sumsSound s = countsSound s && durationsSound s

@@ -1,0 +1,149 @@
+// The seven sums of a trace's bursts and the figures that they give: document 01, "The trace and its figures".
+// What the sums are over, groups of events, is in specs/Groups.antt. Any sums may be handed in: those that
+// are not sound are refused, and no product of them wraps.
+use refusal::Refusal;
+ghost use mathlib.Core.Path.{_≡_};
+ghost use Rattle.bursts.specs.Sums.{countsSound, durationsSound, sumsSound};
+ghost use Rattle.bursts.specs.Figures.{rateOf, ranged, meanOf, varianceOf, figuresOf, measuredOf};
+ghost use Rattle.bursts.specs.Steps.{Rated, Spread};
+
+// E, L, Eb, Lb, n, S and Q of document 01, in its order.
+#[repr(C)]
+pub struct Sums {
+    pub packets: u64,
+    pub events: u64,
+    pub burst_packets: u64,
+    pub burst_events: u64,
+    pub bursts: u64,
+    pub durations: u64,
+    pub squares: u64,
+}
+
+// The figures as blocks 17 and 18 hold them.
+#[repr(C)]
+pub struct Figures {
+    pub burst_rate: u16,
+    pub gap_rate: u16,
+    pub burst_mean: u16,
+    pub burst_variance: u16,
+}
+
+// What sums give: their figures, or why none.
+pub enum Measured {
+    Accepted(Figures),
+    Refused(Refusal),
+}
+
+// The most packets, trace::TRACE_MAX as a sum has it.
+pub const PACKETS_MAX: u64 = 65_536;
+
+// The most milliseconds of all bursts: the most packets at the widest spacing.
+pub const DURATIONS_MAX: u64 = 2_621_440;
+
+// A rate of one event for each packet.
+pub const RATE_ONE: u64 = 32_768;
+
+// The largest mean or variance that is sent as it is.
+pub const MEASURE_MAX: u64 = 65_533;
+
+pub const OVER_RANGE: u16 = 65_534;
+
+pub const UNAVAILABLE: u16 = 65_535;
+
+// Whether sums can be those of a trace, as far as document 01's list says.
+pub fn sound(s: Sums) -> bool
+    ensures { λ r. ⌜ r ≡ sumsSound s ⌝ }
+{
+    counts_sound(s) & durations_sound(s)
+}
+
+// The figures of sums.
+pub fn measure(s: Sums) -> Measured
+    ensures { λ r. ⌜ r ≡ measuredOf s ⌝ }
+{
+    if !sound(s) {
+        return Measured::Refused(refusal::SETTING);
+    }
+    Measured::Accepted(Figures {
+        burst_rate: rate(s.burst_events, s.burst_packets),
+        gap_rate: rate(s.events - s.burst_events, s.packets - s.burst_packets),
+        burst_mean: mean(s),
+        burst_variance: variance(s),
+    })
+}
+
+// Of the list's lines those on packets, events and bursts.
+fn counts_sound(s: Sums) -> bool
+    ensures { λ r. ⌜ r ≡ countsSound s ⌝ }
+{
+    if s.packets < s.burst_packets {
+        return false;
+    }
+    if s.events < s.burst_events {
+        return false;
+    }
+    (s.packets <= PACKETS_MAX)
+        & (s.burst_events <= s.burst_packets)
+        & (s.events - s.burst_events <= s.packets - s.burst_packets)
+        & (s.bursts <= s.burst_packets / 2)
+}
+
+// Of the list's lines those on durations.
+fn durations_sound(s: Sums) -> bool
+    ensures { λ r. ⌜ r ≡ durationsSound s ⌝ }
+{
+    if DURATIONS_MAX < s.durations {
+        return false;
+    }
+    if s.durations * s.durations < s.squares {
+        return false;
+    }
+    if s.bursts == 0 {
+        return true;
+    }
+    let mean = s.durations / s.bursts;
+    mean * mean <= s.squares / s.bursts
+}
+
+// Events for each packet, in parts of RATE_ONE.
+fn rate(events: u64, packets: u64) -> u16
+    requires { ⌜ Rated events packets ⌝ }
+    ensures { λ r. ⌜ r ≡ rateOf events packets ⌝ }
+{
+    if packets == 0 {
+        return UNAVAILABLE;
+    }
+    (events * RATE_ONE / packets) as u16
+}
+
+// A mean or variance as it is sent.
+fn in_range(measure: u64) -> u16
+    ensures { λ r. ⌜ r ≡ ranged measure ⌝ }
+{
+    if MEASURE_MAX < measure {
+        return OVER_RANGE;
+    }
+    measure as u16
+}
+
+// The mean of the bursts' durations.
+fn mean(s: Sums) -> u16
+    ensures { λ r. ⌜ r ≡ meanOf s ⌝ }
+{
+    if s.bursts == 0 {
+        return UNAVAILABLE;
+    }
+    in_range(s.durations / s.bursts)
+}
+
+// The variance of the bursts' durations; the mean in it is the whole one, also where the mean sent is not.
+fn variance(s: Sums) -> u16
+    requires { ⌜ Spread s ⌝ }
+    ensures { λ r. ⌜ r ≡ varianceOf s ⌝ }
+{
+    if s.bursts == 0 {
+        return UNAVAILABLE;
+    }
+    let mean = s.durations / s.bursts;
+    in_range(s.squares / s.bursts - mean * mean)
+}

@@ -1,0 +1,83 @@
+-- The cases of a tally's calls, in the order of the refusals. Assumes nothing.
+use Prim.Native.Nat.{ℕ, _+_, _*_, _/_, _<_, _≤_}
+use mathlib.Core.Path.{_≡_, refl, sym, ap, _∙_}
+use mathlib.Core.Bool.{Bool, true, false}
+use native.Mathlib.Omega.{arith}
+use native.Mathlib.Nat.{mul-le-mul, zero-div}
+use borrow.Author.Tests.{lt-ltb, le-ltb, le-leb, lt-leb}
+use Rattle.refusal.specs.Table.{setting, traceLength, traceByte}
+use Rattle.settings.specs.Ranges.{spacingMax, burstInRange}
+use Rattle.trace.specs.declared.Event.{Event}
+use Rattle.trace.specs.Trace.{packetMax, traceMax, countsAs}
+use Rattle.bursts.specs.declared.Sums.{Sums}
+use Rattle.bursts.specs.declared.Measured.{Measured}
+use Rattle.bursts.specs.declared.Measured.the-variants.{Refused as Measured·Refused}
+use Rattle.bursts.specs.Groups.{duration, square}
+use Rattle.bursts.specs.Sums.{durationsMax, sumsSound}
+use Rattle.bursts.specs.Figures.{measuredOf}
+use Rattle.bursts.proofs.Soundness.{square-small}
+use Rattle.tally.specs.declared.Tally.{Tally}
+use Rattle.tally.specs.declared.Opened.the-variants.{Accepted, Refused}
+use Rattle.tally.specs.declared.Answer.the-variants.{Accepted as Answer·Accepted}
+use Rattle.tally.specs.declared.Taken.{Taken}
+use Rattle.tally.specs.Tally.{fresh, openOf, countedIn, counted, oneEvent, with, sound, passed, joined, apart, joins, stepOf, refusedWith, takeOne, closeOf}
+use Rattle.tally.specs.Steps.{bounded}
+use Rattle.tally.proofs.Limits.{out-of-range, out-of-bounds, tested}
+
+-- a burst of so many packets lasts so long at most
+pub duration-small : (spacing packets : ℕ) → spacing ≤ spacingMax → packets ≤ traceMax → duration spacing packets ≤ durationsMax
+unfolding duration
+duration-small spacing packets s p = let h = mul-le-mul {n₂ = traceMax} {m₂ = spacingMax} p s in omega arith
+
+-- opening
+pub not-opened : (gmin spacing : ℕ) (event : Event) → burstInRange gmin spacing ≡ false → Refused setting ≡ openOf gmin spacing event
+unfolding openOf
+not-opened gmin spacing event h = rw h
+
+pub opened : (gmin spacing : ℕ) (event : Event) (t : Tally) → burstInRange gmin spacing ≡ true → t ≡ fresh gmin spacing event → Accepted t ≡ openOf gmin spacing event
+unfolding openOf
+opened gmin spacing event t h e = rw (h, e)
+
+module _ (t : Tally) where
+  -- a step
+  module _ (packet : ℕ) where
+    pub passes : countsAs (t .event) packet ≡ false → passed t ≡ stepOf t packet
+    unfolding stepOf
+    passes h = rw h
+
+    pub belongs : countsAs (t .event) packet ≡ true → joins t ≡ true → joined t ≡ stepOf t packet
+    unfolding stepOf
+    belongs h j = rw (h, j)
+
+    pub begins : (s : Sums) → countsAs (t .event) packet ≡ true → joins t ≡ false → s ≡ countedIn (t .spacing) (t .stretch) (oneEvent (t .sums)) →
+        with t s (record { events = 1; packets = 1; since = 0 }) ≡ stepOf t packet
+    unfolding stepOf apart
+    begins s h j e = rw (h, j, e)
+
+    -- taking
+    pub unsound : sound t ≡ false → refusedWith t setting ≡ takeOne t packet
+    unfolding takeOne
+    unsound h = rw h
+
+    module _ (s : sound t ≡ true) where
+      pub full : traceMax ≤ t .sums .packets → refusedWith t traceLength ≡ takeOne t packet
+      unfolding takeOne
+      full h = rw (s, le-ltb (t .sums .packets) traceMax h)
+
+      module _ (room : t .sums .packets < traceMax) where
+        pub bad-byte : packetMax < packet → refusedWith t (traceByte 0) ≡ takeOne t packet
+        unfolding takeOne
+        bad-byte h = rw (s, lt-ltb (t .sums .packets) traceMax room, lt-leb packet packetMax h)
+
+        pub taken : (r : Tally) → packet ≤ packetMax → r ≡ stepOf t packet → record { tally = r; answer = Answer·Accepted } ≡ takeOne t packet
+        unfolding takeOne
+        taken r h e = rw (s, lt-ltb (t .sums .packets) traceMax room, le-leb packet packetMax h, e)
+
+  -- closing
+  pub not-closed : false ≡ sound t → Measured·Refused setting ≡ closeOf t
+  unfolding closeOf
+  not-closed h = rw (← h)
+
+  pub closes : sumsSound (counted t) ≡ sound t → measuredOf (counted t) ≡ closeOf t
+  unfolding closeOf measuredOf
+  closes h = rw h
