@@ -6,24 +6,25 @@ use native.Mathlib.Omega.{arith}
 use native.Mathlib.Nat.{mul-comm, mul-le-mul-right, div-le-of-le-mul}
 use borrow.Author.Tests.{le-leb, lt-leb, eq-eqb, ne-eqb}
 use Rattle.refusal.specs.Table.{setting}
+use Rattle.block.specs.Reading.{rateMax, unavailable}
 use Rattle.bursts.specs.declared.Sums.{Sums}
 use Rattle.bursts.specs.declared.Figures.{Figures}
 use Rattle.bursts.specs.declared.Measured.the-variants.{Accepted, Refused}
 use Rattle.bursts.specs.Groups.{square}
 use Rattle.bursts.specs.Sums.{meanDuration, sumsSound}
-use Rattle.bursts.specs.Figures.{rateOne, measureMax, overRange, unavailable, rateOf, ranged, meanOf, varianceOf, figuresOf, measuredOf}
+use Rattle.bursts.specs.Figures.{measureMax, overRange, rateOf, ranged, meanOf, varianceOf, figuresOf, measuredOf}
 
 pub no-rate : (events packets : ℕ) → packets ≡ 0 → unavailable ≡ rateOf events packets
 unfolding rateOf
 no-rate events packets h = rw (eq-eqb packets 0 h)
 
-pub some-rate : (events packets : ℕ) → (packets ≡ 0 → ⊥) → events * rateOne / packets ≡ rateOf events packets
+pub some-rate : (events packets : ℕ) → (packets ≡ 0 → ⊥) → events * rateMax / packets ≡ rateOf events packets
 unfolding rateOf
 some-rate events packets h = rw (ne-eqb packets 0 h)
 
 -- a rate is at most one event for each packet
-pub rate-small : (events packets : ℕ) → events ≤ packets → events * rateOne / packets ≤ rateOne
-rate-small events packets h = div-le-of-le-mul packets (mul-le-mul-right rateOne h)
+pub rate-small : (events packets : ℕ) → events ≤ packets → events * rateMax / packets ≤ rateMax
+rate-small events packets h = div-le-of-le-mul packets (mul-le-mul-right rateMax h)
 
 pub over : (measure : ℕ) → measureMax < measure → overRange ≡ ranged measure
 unfolding ranged

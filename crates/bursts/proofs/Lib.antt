@@ -1,3 +1,4 @@
 pub mod Groups
 pub mod Soundness
 pub mod Cases
+pub mod Availability

@@ -1,10 +1,10 @@
--- The figures of the seven sums: document 01, "The trace and its figures", and "The packet" on what is sent for
--- a figure that is unavailable or over range.
+-- The figures of the seven sums, as blocks 17 and 18 hold them: document 01, "The trace and its figures".
 use Prim.Native.Nat.{ℕ, _-_, _*_, _/_}
 use mathlib.Core.Bool.{cond}
 use lib.Dec.{eqb, leb}
 use Rattle.refusal.specs.Table.{setting}
 use Rattle.refusal.specs.Answer.{unless}
+use Rattle.block.specs.Reading.{rateMax, unavailable}
 use Rattle.bursts.specs.declared.Sums.{Sums}
 use Rattle.bursts.specs.declared.Figures.{Figures}
 use Rattle.bursts.specs.declared.Measured.{Measured}
@@ -12,21 +12,15 @@ use Rattle.bursts.specs.declared.Measured.the-variants.{Accepted, Refuse
 use Rattle.bursts.specs.Groups.{square}
 use Rattle.bursts.specs.Sums.{meanDuration, sumsSound}
 
-abbrev pub rateOne : ℕ
-rateOne = 32_768
-
 abbrev pub measureMax : ℕ
 measureMax = 65_533
 
 abbrev pub overRange : ℕ
 overRange = 65_534
 
-abbrev pub unavailable : ℕ
-unavailable = 65_535
-
 -- "integer part of Lb × 32768 / Eb; unavailable if Eb is 0"
 unfoldable pub rateOf : ℕ → ℕ → ℕ
-rateOf events packets = cond (eqb packets 0) unavailable (events * rateOne / packets)
+rateOf events packets = cond (eqb packets 0) unavailable (events * rateMax / packets)
 
 -- "above 65,533 sent as over range"
 unfoldable pub ranged : ℕ → ℕ

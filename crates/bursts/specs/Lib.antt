@@ -2,3 +2,4 @@ pub mod Groups
 pub mod Sums
 pub mod Figures
 pub mod Steps
+pub mod Laws

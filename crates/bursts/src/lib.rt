@@ -35,20 +35,17 @@ pub enum Measured {
 }
 
 // The most packets, trace::TRACE_MAX as a sum has it.
-pub const PACKETS_MAX: u64 = 65_536;
+pub const PACKETS_MAX: u64 = trace::TRACE_MAX as u64;
 
 // The most milliseconds of all bursts: the most packets at the widest spacing.
 pub const DURATIONS_MAX: u64 = 2_621_440;
 
-// A rate of one event for each packet.
-pub const RATE_ONE: u64 = 32_768;
+const RATE_MAX: u64 = block::RATE_MAX as u64;
 
 // The largest mean or variance that is sent as it is.
 pub const MEASURE_MAX: u64 = 65_533;
 
 pub const OVER_RANGE: u16 = 65_534;
-
-pub const UNAVAILABLE: u16 = 65_535;
 
 // Whether sums can be those of a trace, as far as document 01's list says.
 pub fn sound(s: Sums) -> bool
@@ -105,15 +102,15 @@ fn durations_sound(s: Sums) -> bool
     mean * mean <= s.squares / s.bursts
 }
 
-// Events for each packet, in parts of RATE_ONE.
+// Events for each packet, in parts of the highest rate.
 fn rate(events: u64, packets: u64) -> u16
     requires { ⌜ Rated events packets ⌝ }
     ensures { λ r. ⌜ r ≡ rateOf events packets ⌝ }
 {
     if packets == 0 {
-        return UNAVAILABLE;
+        return block::UNAVAILABLE;
     }
-    (events * RATE_ONE / packets) as u16
+    (events * RATE_MAX / packets) as u16
 }
 
 // A mean or variance as it is sent.
@@ -131,7 +128,7 @@ fn mean(s: Sums) -> u16
     ensures { λ r. ⌜ r ≡ meanOf s ⌝ }
 {
     if s.bursts == 0 {
-        return UNAVAILABLE;
+        return block::UNAVAILABLE;
     }
     in_range(s.durations / s.bursts)
 }
@@ -142,7 +139,7 @@ fn variance(s: Sums) -> u16
     ensures { λ r. ⌜ r ≡ varianceOf s ⌝ }
 {
     if s.bursts == 0 {
-        return UNAVAILABLE;
+        return block::UNAVAILABLE;
     }
     let mean = s.durations / s.bursts;
     in_range(s.squares / s.bursts - mean * mean)

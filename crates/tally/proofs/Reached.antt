@@ -1,5 +1,4 @@
--- Tallies that were opened and took a trace: `Takes-all`, `Sound-throughout`, `Closes-with-figures` and
--- `Closes-empty` of specs/Laws.antt. Assumes nothing.
+-- Tallies that were opened and took a trace: the laws of specs/Laws.antt. Assumes nothing.
 use Prim.Native.Nat.{ℕ, suc, _+_, _<_, _≤_, min}
 use mathlib.Core.Path.{_≡_, refl, sym, ap, _∙_}
 use mathlib.Core.Bool.{Bool, true, false}
@@ -23,7 +22,7 @@ use Rattle.tally.specs.declared.Opened.the-variants.{Accepted, Refused}
 use Rattle.tally.specs.declared.Answer.the-variants.{Accepted as Answer·Accepted}
 use Rattle.tally.specs.declared.Taken.{Taken}
 use Rattle.tally.specs.Tally.{fresh, openOf, withBurst, countedIn, counted, sound, onePacket, oneEvent, passed, joined, apart, joins, stepOf, takeOne, closeOf, takeAll}
-use Rattle.tally.specs.Laws.{Given, Takes-all, Sound-throughout, Closes-with-figures, Closes-empty}
+use Rattle.tally.specs.Laws.{Given, Takes-all, Sound-throughout, Counts-all, Closes-with-figures, Closes-empty}
 use Rattle.tally.proofs.Limits.{Grown, grown}
 use Rattle.tally.proofs.Turns.{passes, belongs, begins, taken}
 use Rattle.tally.proofs.Holding.{stepAll, tallyOf, AllInside, none-held, none-inside, all-held, counted-all}
@@ -65,11 +64,11 @@ all-packets t [] = omega arith
 all-packets t (packet ∷ s) = let e = step-packets t packet in let f = all-packets (stepOf t packet) s in omega arith
 
 -- what was opened
-record Fresh (gmin spacing : ℕ) (event : Event) (t : Tally) : Type 0 where
+pub record Fresh (gmin spacing : ℕ) (event : Event) (t : Tally) : Type 0 where
   pub ranges : burstInRange gmin spacing ≡ true
   pub none : t ≡ fresh gmin spacing event
 
-opened-fresh : (gmin spacing : ℕ) (event : Event) (t : Tally) → openOf gmin spacing event ≡ Accepted t → Fresh gmin spacing event t
+pub opened-fresh : (gmin spacing : ℕ) (event : Event) (t : Tally) → openOf gmin spacing event ≡ Accepted t → Fresh gmin spacing event t
 unfolding openOf
 opened-fresh gmin spacing event t h = go (burstInRange gmin spacing) refl h
   where
@@ -132,6 +131,11 @@ pub sound-throughout : Sound-throughout
 sound-throughout gmin spacing event t s g i =
     let h = accepted-sound s (g .accepted) in
     reached-sound gmin spacing event t (opened-fresh gmin spacing event t (g .opened)) (take i s) (part-most s h i) (part-good s h i)
+
+pub counts-all : Counts-all
+counts-all gmin spacing event t s g i =
+    let h = accepted-sound s (g .accepted) in
+    reached-counted gmin spacing event t (opened-fresh gmin spacing event t (g .opened)) (take i s) (part-most s h i) (part-good s h i)
 
 pub closes-with-figures : Closes-with-figures
 closes-with-figures gmin spacing event t s g =

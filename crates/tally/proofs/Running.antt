@@ -1,22 +1,23 @@
 -- A tally that takes a whole trace in a loop, and the cases of that call. Assumes nothing.
 use Prim.Native.Nat.{ℕ, _+_, _<_, _≤_}
 use mathlib.Core.Path.{_≡_, refl, sym, ap, _∙_}
-use mathlib.Core.Bool.{true, false}
+use mathlib.Core.Bool.{Bool, true, false}
 use mathlib.Core.List.{List}
 use native.Mathlib.Omega.{arith}
 use native.Mathlib.Numerals.{add-one}
 use lib.ListN.{length, getD, drop, drop-of-length-le}
 use lib.Seq.{drop-cons}
 use Rattle.refusal.specs.Table.{setting}
+use Rattle.refusal.specs.Answer.{unless}
 use Rattle.refusal.specs.declared.Refusal.{Refusal}
 use Rattle.settings.specs.Ranges.{burstInRange}
 use Rattle.trace.specs.declared.Event.{Event}
 use Rattle.trace.specs.declared.Judged.the-variants.{Accepted as Judged·Accepted, Refused as Judged·Refused}
-use Rattle.trace.specs.Trace.{traceMax, judged}
+use Rattle.trace.specs.Trace.{traceMax, judged, ifAccepted}
 use Rattle.trace.proofs.Judging.{accepted-sound}
 use Rattle.tally.specs.declared.Tally.{Tally}
 use Rattle.tally.specs.declared.Opened.the-variants.{Accepted, Refused}
-use Rattle.tally.specs.Tally.{fresh, stepOf, takeAll, overTrace}
+use Rattle.tally.specs.Tally.{fresh, openOf, stepOf, takeAll, overTrace}
 use Rattle.tally.specs.Steps.{Bounded}
 use Rattle.tally.proofs.Limits.{sound-bounded, bounded-of}
 use Rattle.tally.proofs.Holding.{stepAll}
@@ -59,9 +60,14 @@ module _ (s : List ℕ) (first t : Tally) where
 
 -- the cases of the call
 module _ (gmin spacing : ℕ) (event : Event) (s : List ℕ) where
-  pub over-range : burstInRange gmin spacing ≡ false → Refused setting ≡ overTrace gmin spacing event s
-  unfolding overTrace
-  over-range h = rw h
+  pub over-range : (r : Refusal) → openOf gmin spacing event ≡ Refused r → Refused setting ≡ overTrace gmin spacing event s
+  unfolding openOf overTrace
+  over-range r h = go (burstInRange gmin spacing) refl h
+    where
+      go : (b : Bool) → burstInRange gmin spacing ≡ b → unless b (Refused setting) (Accepted (fresh gmin spacing event)) ≡ Refused r →
+          Refused setting ≡ unless b (Refused setting) (ifAccepted (judged s) Refused (Accepted (takeAll (fresh gmin spacing event) s)))
+      go false e a = refl
+      go true e a = let z : _≡_ {A = ℕ} 0 1 = cc in absurd (omega arith)
 
   module _ (ranges : burstInRange gmin spacing ≡ true) where
     pub over-refused : (r : Refusal) → judged s ≡ Judged·Refused r → Refused r ≡ overTrace gmin spacing event s

@@ -5,6 +5,7 @@ use mathlib.Core.Bool.{Bool, true, false}
 use native.Mathlib.Omega.{arith}
 use native.Mathlib.Nat.{mul-le-mul, zero-div}
 use borrow.Author.Tests.{lt-ltb, le-ltb, le-leb, lt-leb}
+use lib.Dec.{ltb}
 use Rattle.refusal.specs.Table.{setting, traceLength, traceByte}
 use Rattle.settings.specs.Ranges.{spacingMax, burstInRange}
 use Rattle.trace.specs.declared.Event.{Event}
@@ -39,6 +40,19 @@ unfolding openOf
 opened gmin spacing event t h e = rw (h, e)
 
 module _ (t : Tally) where
+  -- whether an event belongs to the stretch
+  pub is-near : 0 < t .stretch .events → ltb (t .stretch .since) (t .gmin) ≡ true → joins t ≡ true
+  unfolding joins
+  is-near some near = rw (lt-ltb 0 (t .stretch .events) some, near)
+
+  pub is-first : t .stretch .events ≤ 0 → joins t ≡ false
+  unfolding joins
+  is-first none = rw (le-ltb 0 (t .stretch .events) none)
+
+  pub is-far : 0 < t .stretch .events → ltb (t .stretch .since) (t .gmin) ≡ false → joins t ≡ false
+  unfolding joins
+  is-far some far = rw (lt-ltb 0 (t .stretch .events) some, far)
+
   -- a step
   module _ (packet : ℕ) where
     pub passes : countsAs (t .event) packet ≡ false → passed t ≡ stepOf t packet

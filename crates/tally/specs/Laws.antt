@@ -7,13 +7,14 @@ use lib.ListN.{length, getD, take}
 use Rattle.trace.specs.declared.Event.{Event}
 use Rattle.trace.specs.declared.Judged.the-variants.{Accepted as Judged·Accepted}
 use Rattle.trace.specs.Trace.{countsAs, judged}
+use Rattle.block.specs.Reading.{unavailable}
 use Rattle.bursts.specs.declared.Measured.the-variants.{Accepted as Measured·Accepted}
 use Rattle.bursts.specs.Sums.{sumsOf}
-use Rattle.bursts.specs.Figures.{unavailable, figuresOf}
+use Rattle.bursts.specs.Figures.{figuresOf}
 use Rattle.tally.specs.declared.Tally.{Tally}
 use Rattle.tally.specs.declared.Opened.the-variants.{Accepted}
 use Rattle.tally.specs.declared.Answer.the-variants.{Accepted as Answer·Accepted}
-use Rattle.tally.specs.Tally.{openOf, sound, takeOne, closeOf, takeAll}
+use Rattle.tally.specs.Tally.{openOf, counted, sound, takeOne, closeOf, takeAll}
 
 -- A tally t was opened, and s is an accepted trace.
 pub record Given (gmin spacing : ℕ) (event : Event) (t : Tally) (s : List ℕ) : Type 0 where
@@ -30,6 +31,12 @@ abbrev pub Sound-throughout : Type 0
 Sound-throughout =
     (gmin spacing : ℕ) (event : Event) (t : Tally) (s : List ℕ) → Given gmin spacing event t s →
     (i : ℕ) → sound (takeAll t (take i s)) ≡ true
+
+-- At every point its sums, with the open stretch counted in, are those of the packets so far.
+abbrev pub Counts-all : Type 0
+Counts-all =
+    (gmin spacing : ℕ) (event : Event) (t : Tally) (s : List ℕ) → Given gmin spacing event t s →
+    (i : ℕ) → counted (takeAll t (take i s)) ≡ sumsOf (countsAs event) gmin spacing (take i s)
 
 -- Its closing equals the formulas over the whole trace.
 abbrev pub Closes-with-figures : Type 0

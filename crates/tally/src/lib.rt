@@ -65,13 +65,13 @@ pub fn open(gmin: u32, spacing: u32, event: Event) -> Opened
 pub fn over(trace: &[u8], gmin: u32, spacing: u32, event: Event) -> Opened
     ensures { λ r. ⌜ r ≡ overTrace gmin spacing event (now (trace .entry)) ⌝ }
 {
-    if !settings::burst_in_range(gmin, spacing) {
+    let Opened::Accepted(first) = open(gmin, spacing, event) else {
         return Opened::Refused(refusal::SETTING);
-    }
+    };
     if let Judged::Refused(why) = trace::judge(trace) {
         return Opened::Refused(why);
     }
-    let mut tally = new_tally(gmin, spacing, event);
+    let mut tally = first;
     let mut i = 0;
     while i < trace.len() {
         tally = tally.step(trace[i]);
@@ -177,7 +177,7 @@ impl Tally {
             return self;
         }
         sums.events += 1;
-        if (0 < stretch.events) & (stretch.since < self.gmin as u64) {
+        if 0 < stretch.events && stretch.since < self.gmin as u64 {
             stretch.events += 1;
             stretch.packets += stretch.since + 1;
             stretch.since = 0;

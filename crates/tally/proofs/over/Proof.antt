@@ -1,12 +1,10 @@
 -- `tally::over` meets its contract. The loop's invariant is `Running`. Assumes nothing.
 use Prim.Native.Nat.{_-_}
 use mathlib.Core.Path.{_≡_, sym, _∙_}
-use mathlib.Core.Bool.{true}
 use native.Mathlib.Omega.{arith}
 use borrow.Author.Needs.{needs}
-use borrow.Author.Tests.{not-true, not-false}
 use lib.ListN.{length}
-use Rattle.settings.specs.Ranges.{burstInRange}
+use Rattle.tally.proofs.Reached.{opened-fresh}
 use Rattle.tally.proofs.Running.{Running, running-bounded, running-more, running-end, over-range, over-refused, over-start, over-all}
 use Rattle.tally.proofs.over.Statement.{statement}
 use Rattle.tally.proofs.over.Tie as tie
@@ -17,15 +15,18 @@ Inv-loop trace gmin spacing tally₀ i₀ tally i = Running trace tally₀ tally
 abbrev μ-loop : tie.MeasureT-loop
 μ-loop trace gmin spacing tally₀ i₀ tally i = length trace - i
 
--- what is known once the settings are in range
-ranges : (c : tie.Else1 Inv-loop μ-loop) → burstInRange (c .before .before .before .args .gmin) (c .before .before .before .args .spacing) ≡ true
-ranges c = sym (c .before .burst-in-range .ensures) ∙ not-false (c .before .burst-in-range .result) (c .if1 .left)
+open-requires : tie.Need-open-requires Inv-loop μ-loop
+open-requires c κs = search needs
 
-burst-in-range-requires : tie.Need-burst-in-range-requires Inv-loop μ-loop
-burst-in-range-requires c κs = search needs
+enum-known-first : tie.Need-enum-known-first Inv-loop μ-loop
+enum-known-first c = search needs
+
+-- /work/tally-tree/target/rlib/refusal.rlib/interface/lang/src/lib.rt:17:31
+enum-told : tie.Need-enum-told Inv-loop μ-loop
+enum-told c = search needs
 
 returns : tie.Need-returns Inv-loop μ-loop
-returns c = over-range _ _ _ _ (sym (c .before .burst-in-range .ensures) ∙ not-true (c .before .burst-in-range .result) (c .if1 .taken))
+returns c = over-range _ _ _ _ _ (sym (c .before .before .«open» .ensures) ∙ c .enum-told .given .1)
 
 judge-requires : tie.Need-judge-requires Inv-loop μ-loop
 judge-requires c κs = search needs
@@ -34,16 +35,15 @@ enum-known-why : tie.Need-enum-known-why Inv-loop μ-loop
 enum-known-why c = search needs
 
 returns-2 : tie.Need-returns-2 Inv-loop μ-loop
-returns-2 c = over-refused _ _ _ _ (ranges (c .before .before .before .before)) _ (sym (c .before .before .before .judge .ensures) ∙ c .before .why .given .1)
+returns-2 c = over-refused _ _ _ _ (opened-fresh _ _ _ _ (sym (c .before .before .before .before .before .before .before .«open» .ensures) ∙ c .before .before .before .before .before .first .given .1) .ranges) _ (sym (c .before .before .before .judge .ensures) ∙ c .before .why .given .1)
 
-enum-told : tie.Need-enum-told Inv-loop μ-loop
-enum-told c = search needs
-
-new-tally-requires : tie.Need-new-tally-requires Inv-loop μ-loop
-new-tally-requires c κs = search needs
+enum-told-2 : tie.Need-enum-told-2 Inv-loop μ-loop
+enum-told-2 c = search needs
 
 loop-holds : tie.Need-loop-holds Inv-loop μ-loop
-loop-holds c = over-start _ _ _ _ (ranges (c .before .before .before .before)) (sym (c .before .before .before .judge .ensures) ∙ c .before .enum-told .given .1) _ (c .new-tally .ensures)
+loop-holds c =
+    let f = opened-fresh _ _ _ _ (sym (c .before .before .before .before .before .before .«open» .ensures) ∙ c .before .before .before .before .first .given .1) in
+    over-start _ _ _ _ (f .ranges) (sym (c .before .before .judge .ensures) ∙ c .enum-told2 .given .1) _ (f .none)
 
 shared-slice-read-step : tie.Need-shared-slice-read-step Inv-loop μ-loop
 shared-slice-read-step c = search needs
@@ -62,7 +62,8 @@ loop-again c = running-more _ _ _ _ _ (c .before .before .before .loop .inv) (om
 
 returns-3 : tie.Need-returns-3 Inv-loop μ-loop
 returns-3 c =
-    over-all _ _ _ _ (ranges (c .before .before .before .before .before .before)) (sym (c .before .before .before .before .before .judge .ensures) ∙ c .before .before .before .enum-told .given .1) _ _ (c .before .before .new-tally .ensures)
+    let f = opened-fresh _ _ _ _ (sym (c .before .before .before .before .before .before .before .before .«open» .ensures) ∙ c .before .before .before .before .before .before .first .given .1) in
+    over-all _ _ _ _ (f .ranges) (sym (c .before .before .before .before .judge .ensures) ∙ c .before .before .enum-told2 .given .1) _ _ (f .none)
     (running-end _ _ _ _ (c .before .loop .inv) (omega arith))
 
 pub over-spec : {M : Type 1} → statement M
@@ -71,13 +72,14 @@ over-spec =
     (tie.spec
     Inv-loop
     μ-loop
-    burst-in-range-requires
+    open-requires
+    enum-known-first
+    enum-told
     returns
     judge-requires
     enum-known-why
     returns-2
-    enum-told
-    new-tally-requires
+    enum-told-2
     loop-holds
     shared-slice-read-step
     step-requires

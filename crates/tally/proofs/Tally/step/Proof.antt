@@ -1,9 +1,10 @@
 -- `tally::Tally::step` meets its contract: each return is a case of Turns.antt. Assumes nothing.
 use mathlib.Core.Path.{sym, _∙_}
+use mathlib.Core.Logic.{⊎-elim}
 use borrow.Author.Tests.{not-true, not-false}
 use native.Mathlib.Omega.{arith}
-use Rattle.tally.specs.Tally.{onePacket, oneEvent, passed, joined, joins}
-use Rattle.tally.proofs.Turns.{passes, belongs, begins}
+use Rattle.tally.specs.Tally.{onePacket, oneEvent, passed, joined}
+use Rattle.tally.proofs.Turns.{is-near, is-first, is-far, passes, belongs, begins}
 use borrow.Author.Needs.{needs}
 use Rattle.tally.proofs.Tally.step.Statement.{statement}
 use Rattle.tally.proofs.Tally.step.Tie as tie
@@ -24,8 +25,8 @@ returns c = passes _ _ (sym (c .before .before .counts .ensures) ∙ not-true (c
 add-sums-2 : tie.Need-add-sums-2
 add-sums-2 c = search needs
 
-cast-if2 : tie.Need-cast-if2
-cast-if2 c = search needs
+cast-if3 : tie.Need-cast-if3
+cast-if3 c = search needs
 
 add-stretch-2 : tie.Need-add-stretch-2
 add-stretch-2 c = search needs
@@ -37,16 +38,19 @@ add-stretch-4 : tie.Need-add-stretch-4
 add-stretch-4 c = search needs
 
 returns-2 : tie.Need-returns-2
-unfolding joined oneEvent joins
-returns-2 c = belongs _ _ (sym (c .before .before .before .before .before .before .before .before .before .counts .ensures) ∙ not-false (c .before .before .before .before .before .before .before .before .before .counts .result) (c .before .before .before .before .before .before .before .before .if1 .left)) (c .before .before .before .if2 .taken)
+unfolding joined oneEvent
+returns-2 c =
+    belongs _ _ (sym (c .before .before .before .before .before .before .before .before .before .before .counts .ensures) ∙ not-false (c .before .before .before .before .before .before .before .before .before .before .counts .result) (c .before .before .before .before .before .before .before .before .before .if1 .left))
+    (is-near _ (c .before .before .before .before .before .before .if2 .taken) (c .before .before .before .if3 .taken))
 
 counted-in-requires : tie.Need-counted-in-requires
 counted-in-requires c κs = search needs
 
 returns-3 : tie.Need-returns-3
-unfolding oneEvent joins
+unfolding oneEvent
 returns-3 c =
-    begins _ _ _ (sym (c .before .before .before .before .before .before .before .counts .ensures) ∙ not-false (c .before .before .before .before .before .before .before .counts .result) (c .before .before .before .before .before .before .if1 .left)) (c .before .if2 .left)
+    begins _ _ _ (sym (c .before .before .before .before .before .counts .ensures) ∙ not-false (c .before .before .before .before .before .counts .result) (c .before .before .before .before .if1 .left))
+    (⊎-elim (λ w. is-far _ (w .0 .taken) (w .3 .left)) (λ w. is-first _ (w .left)) (c .before .if2 .came))
     (c .counted-in .ensures)
 
 pub step-spec : {M : Type 1} → statement M
@@ -58,7 +62,7 @@ step-spec =
     add-stretch
     returns
     add-sums-2
-    cast-if2
+    cast-if3
     add-stretch-2
     add-stretch-3
     add-stretch-4

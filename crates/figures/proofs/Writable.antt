@@ -1,0 +1,86 @@
+-- Figures are right, and a block made from them can be written: the laws of specs/Laws.antt. Assumes nothing.
+use Prim.Native.Nat.{ℕ, _≤_}
+use mathlib.Core.Path.{_≡_, refl, sym, ap, _∙_}
+use mathlib.Core.Bool.{Bool, true, false}
+use mathlib.Core.List.{List}
+use mathlib.Core.Logic.{_⊎_, ⊎-elim}
+use native.Mathlib.Omega.{arith}
+use borrow.Author.Tests.{le-leb}
+use lib.ListN.{length}
+use lib.Seq.{take-length}
+use Rattle.refusal.specs.Table.{setting}
+use Rattle.refusal.specs.Answer.{unless}
+use Rattle.settings.specs.Ranges.{burstInRange}
+use Rattle.block.specs.Reading.{rateMax, unavailable, rateGood, flagGood, summaryFault}
+use Rattle.trace.specs.declared.Event.{Event}
+use Rattle.trace.specs.declared.Judged.{Judged}
+use Rattle.trace.specs.declared.Judged.the-variants.{Accepted as Judged·Accepted, Refused as Judged·Refused}
+use Rattle.trace.specs.Trace.{countsAs, judged, ifAccepted}
+use Rattle.bursts.specs.declared.Sums.{Sums}
+use Rattle.bursts.specs.declared.Figures.{Figures}
+use Rattle.bursts.specs.declared.Measured.the-variants.{Accepted, Refused}
+use Rattle.bursts.specs.Sums.{sumsOf}
+use Rattle.bursts.specs.Figures.{figuresOf, measuredOf}
+use Rattle.bursts.specs.Laws.{Right}
+use Rattle.bursts.proofs.Availability.{figures-right}
+use Rattle.tally.specs.declared.Tally.{Tally}
+use Rattle.tally.specs.Tally.{fresh, counted, sound, closeOf, takeAll}
+use Rattle.tally.specs.Laws.{Given}
+use Rattle.tally.proofs.Limits.{sound-of, sound-bounded, tested}
+use Rattle.tally.proofs.Turns.{opened, not-closed, closes}
+use Rattle.tally.proofs.Reached.{counts-all, closes-with-figures}
+use Rattle.figures.specs.Figures.{figuresIn}
+use Rattle.figures.specs.Laws.{Trace-right, Trace-writable, Tally-writable}
+
+-- rates that are right are good
+good : (r : ℕ) → (r ≤ rateMax) ⊎ (r ≡ unavailable) → rateGood r ≡ true
+unfolding rateGood
+good r h = ⊎-elim (λ (l : r ≤ rateMax). rw (le-leb r rateMax l)) (λ (e : r ≡ unavailable). rw e) h
+
+writable : (s : Sums) (f : Figures) → Right s f → (flag : ℕ) → flagGood flag ≡ true → summaryFault flag (f .«burst_rate») (f .«gap_rate») ≡ 0
+unfolding summaryFault
+writable s f r flag h = rw (h, good (f .«burst_rate») (r .burst-most), good (f .«gap_rate») (r .gap-most))
+
+-- what any tally closes with
+tally-right : (t : Tally) (f : Figures) → closeOf t ≡ Accepted f → Right (counted t) f
+tally-right t f h = go (sound t) refl
+  where
+    go : (b : Bool) → sound t ≡ b → Right (counted t) f
+    go true e = figures-right (counted t) f (closes t (tested t (sound-of t e .ranges) (sound-bounded t e)) ∙ h)
+    go false e =
+        let refused = not-closed t (sym e) in
+        let z : _≡_ {A = ℕ} 0 1 = cc in
+        absurd (omega arith)
+
+pub tally-writable : Tally-writable
+tally-writable t f h flag good-flag = writable (counted t) f (tally-right t f h) flag good-flag
+
+-- a trace whose figures are given was accepted, and so were the settings
+record Measured (gmin spacing : ℕ) (s : List ℕ) : Type 0 where
+  pub ranges : burstInRange gmin spacing ≡ true
+  pub accepted : judged s ≡ Judged·Accepted
+
+measured : (gmin spacing : ℕ) (event : Event) (s : List ℕ) (f : Figures) → figuresIn gmin spacing event s ≡ Accepted f → Measured gmin spacing s
+unfolding figuresIn
+measured gmin spacing event s f h = go (burstInRange gmin spacing) (judged s) refl refl h
+  where
+    go : (b : Bool) (j : Judged) → burstInRange gmin spacing ≡ b → judged s ≡ j →
+        unless b (Refused setting) (ifAccepted j Refused (Accepted (figuresOf (sumsOf (countsAs event) gmin spacing s)))) ≡ Accepted f →
+        Measured gmin spacing s
+    go true Judged·Accepted r j e = record { ranges = r; accepted = j }
+    go true (Judged·Refused why) r j e = let z : _≡_ {A = ℕ} 0 1 = cc in absurd (omega arith)
+    go false j r e a = let z : _≡_ {A = ℕ} 0 1 = cc in absurd (omega arith)
+
+pub trace-right : Trace-right
+unfolding figuresIn
+trace-right gmin spacing event s f h =
+    let m = measured gmin spacing event s f h in
+    let t = fresh gmin spacing event in
+    let g : Given gmin spacing event t s = record { opened = sym (opened gmin spacing event t (m .ranges) refl); accepted = m .accepted } in
+    let closed : closeOf (takeAll t s) ≡ Accepted f = closes-with-figures gmin spacing event t s g ∙ (rw (m .ranges, m .accepted) at h) in
+    let sums : counted (takeAll t s) ≡ sumsOf (countsAs event) gmin spacing s = rw (take-length s) at (counts-all gmin spacing event t s g (length s)) in
+    rw (← sums) (tally-right (takeAll t s) f closed)
+
+pub trace-writable : Trace-writable
+trace-writable gmin spacing event s f h flag good-flag =
+    writable (sumsOf (countsAs event) gmin spacing s) f (trace-right gmin spacing event s f h) flag good-flag
