@@ -1,11 +1,11 @@
--- Figures are right, and a block made from them can be written: the laws of specs/Laws.antt. Assumes nothing.
-use Prim.Native.Nat.{ℕ, _≤_}
-use mathlib.Core.Path.{_≡_, refl, sym, ap, _∙_}
+-- Figures are right, and a block made from them can be written and reads back: the laws of specs/Laws.antt. Assumes nothing.
+use Prim.Native.Nat.{ℕ, _<_, _≤_}
+use mathlib.Core.Path.{_≡_, refl, sym, _∙_}
 use mathlib.Core.Bool.{Bool, true, false}
 use mathlib.Core.List.{List}
 use mathlib.Core.Logic.{_⊎_, ⊎-elim}
 use native.Mathlib.Omega.{arith}
-use borrow.Author.Tests.{le-leb}
+use borrow.Author.Tests.{le-leb, eq-eqb}
 use lib.ListN.{length}
 use lib.Seq.{take-length}
 use Rattle.refusal.specs.Table.{setting}
@@ -20,7 +20,9 @@ use Rattle.bursts.specs.declared.Sums.{Sums}
 use Rattle.bursts.specs.declared.Figures.{Figures}
 use Rattle.bursts.specs.declared.Measured.the-variants.{Accepted, Refused}
 use Rattle.bursts.specs.Sums.{sumsOf}
-use Rattle.bursts.specs.Figures.{figuresOf, measuredOf}
+use Rattle.encode.specs.Laws.{Half}
+use Rattle.encode.proofs.ReadBack.{read-back}
+use Rattle.bursts.specs.Figures.{overRange, figuresOf}
 use Rattle.bursts.specs.Laws.{Right}
 use Rattle.bursts.proofs.Availability.{figures-right}
 use Rattle.tally.specs.declared.Tally.{Tally}
@@ -29,17 +31,32 @@ use Rattle.tally.specs.Laws.{Given}
 use Rattle.tally.proofs.Limits.{sound-of, sound-bounded, tested}
 use Rattle.tally.proofs.Turns.{opened, not-closed, closes}
 use Rattle.tally.proofs.Reached.{counts-all, closes-with-figures}
-use Rattle.figures.specs.Figures.{figuresIn}
-use Rattle.figures.specs.Laws.{Trace-right, Trace-writable, Tally-writable}
+use Rattle.figures.specs.Figures.{figuresIn, lossBlock, discardBlock}
+use Rattle.figures.specs.Laws.{Trace-right, BlocksWrite, Trace-writes, Tally-writes}
 
 -- rates that are right are good
 good : (r : ℕ) → (r ≤ rateMax) ⊎ (r ≡ unavailable) → rateGood r ≡ true
 unfolding rateGood
 good r h = ⊎-elim (λ (l : r ≤ rateMax). rw (le-leb r rateMax l)) (λ (e : r ≡ unavailable). rw e) h
 
-writable : (s : Sums) (f : Figures) → Right s f → (flag : ℕ) → flagGood flag ≡ true → summaryFault flag (f .«burst_rate») (f .«gap_rate») ≡ 0
+faultless : (s : Sums) (f : Figures) → Right s f → (flag : ℕ) → flagGood flag ≡ true → summaryFault flag (f .«burst_rate») (f .«gap_rate») ≡ 0
 unfolding summaryFault
-writable s f r flag h = rw (h, good (f .«burst_rate») (r .burst-most), good (f .«gap_rate») (r .gap-most))
+faultless s f r flag h = rw (h, good (f .«burst_rate») (r .burst-most), good (f .«gap_rate») (r .gap-most))
+
+-- and every figure fits 16 bits
+small : (n most : ℕ) → most < unavailable → (n ≤ most) ⊎ (n ≡ unavailable) → Half n
+small n most m h = ⊎-elim (λ (l : n ≤ most). omega arith) (λ (e : n ≡ unavailable). omega arith) h
+
+writes : (s : Sums) (f : Figures) → Right s f → BlocksWrite f
+writes s f r source flag word good-flag =
+    let through = eq-eqb (summaryFault flag (f .«burst_rate») (f .«gap_rate»)) 0 (faultless s f r flag good-flag) in
+    let burst = small (f .«burst_rate») rateMax (omega arith) (r .burst-most) in
+    let gap = small (f .«gap_rate») rateMax (omega arith) (r .gap-most) in
+    let mean = small (f .«burst_mean») overRange (omega arith) (r .mean-most) in
+    let variance = small (f .«burst_variance») overRange (omega arith) (r .variance-most) in (
+      record { let-through = through; reads-back = read-back (lossBlock f source flag) (word, burst, gap, mean, variance) through },
+      record { let-through = through; reads-back = read-back (discardBlock f source flag) (word, burst, gap) through },
+    )
 
 -- what any tally closes with
 tally-right : (t : Tally) (f : Figures) → closeOf t ≡ Accepted f → Right (counted t) f
@@ -52,8 +69,8 @@ tally-right t f h = go (sound t) refl
         let z : _≡_ {A = ℕ} 0 1 = cc in
         absurd (omega arith)
 
-pub tally-writable : Tally-writable
-tally-writable t f h flag good-flag = writable (counted t) f (tally-right t f h) flag good-flag
+pub tally-writes : Tally-writes
+tally-writes t f h = writes (counted t) f (tally-right t f h)
 
 -- a trace whose figures are given was accepted, and so were the settings
 record Measured (gmin spacing : ℕ) (s : List ℕ) : Type 0 where
@@ -81,6 +98,5 @@ trace-right gmin spacing event s f h =
     let sums : counted (takeAll t s) ≡ sumsOf (countsAs event) gmin spacing s = rw (take-length s) at (counts-all gmin spacing event t s g (length s)) in
     rw (← sums) (tally-right (takeAll t s) f closed)
 
-pub trace-writable : Trace-writable
-trace-writable gmin spacing event s f h flag good-flag =
-    writable (sumsOf (countsAs event) gmin spacing s) f (trace-right gmin spacing event s f h) flag good-flag
+pub trace-writes : Trace-writes
+trace-writes gmin spacing event s f h = writes (sumsOf (countsAs event) gmin spacing s) f (trace-right gmin spacing event s f h)
