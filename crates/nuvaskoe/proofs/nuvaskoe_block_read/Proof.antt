@@ -1,6 +1,6 @@
 -- `nuvaskoe::nuvaskoe_block_read` meets its contract: the library's call, put into the struct. Assumes nothing.
 use mathlib.Core.Path.{ap, _∙_}
-use Rattle.nuvaskoe.specs.Answers.{readOut}
+use Rattle.plain_packet.specs.Answers.{readOut}
 use borrow.Author.Needs.{needs}
 use Rattle.nuvaskoe.proofs.nuvaskoe_block_read.Statement.{statement}
 use Rattle.nuvaskoe.proofs.nuvaskoe_block_read.Tie as tie

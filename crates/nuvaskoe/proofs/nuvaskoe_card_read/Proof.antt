@@ -1,6 +1,6 @@
 -- `nuvaskoe::nuvaskoe_card_read` meets its contract: the library's call, put into the struct. Assumes nothing.
 use mathlib.Core.Path.{ap, _∙_}
-use Rattle.nuvaskoe.specs.Answers.{cardOut}
+use Rattle.plain_packet.specs.Answers.{cardOut}
 use borrow.Author.Needs.{needs}
 use Rattle.nuvaskoe.proofs.nuvaskoe_card_read.Statement.{statement}
 use Rattle.nuvaskoe.proofs.nuvaskoe_card_read.Tie as tie

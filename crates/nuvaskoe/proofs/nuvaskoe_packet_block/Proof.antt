@@ -1,6 +1,6 @@
 -- `nuvaskoe::nuvaskoe_packet_block` meets its contract: the library's call, put into the struct. Assumes nothing.
 use mathlib.Core.Path.{ap, _∙_}
-use Rattle.nuvaskoe.specs.Answers.{blockOut}
+use Rattle.plain_packet.specs.Answers.{blockOut}
 use borrow.Author.Needs.{needs}
 use Rattle.nuvaskoe.proofs.nuvaskoe_packet_block.Statement.{statement}
 use Rattle.nuvaskoe.proofs.nuvaskoe_packet_block.Tie as tie

@@ -1,6 +1,6 @@
 -- `nuvaskoe::nuvaskoe_packet_read` meets its contract: the library's call, put into the struct. Assumes nothing.
 use mathlib.Core.Path.{ap, _∙_}
-use Rattle.nuvaskoe.specs.Answers.{packetOut}
+use Rattle.plain_packet.specs.Answers.{packetOut}
 use borrow.Author.Needs.{needs}
 use Rattle.nuvaskoe.proofs.nuvaskoe_packet_read.Statement.{statement}
 use Rattle.nuvaskoe.proofs.nuvaskoe_packet_read.Tie as tie

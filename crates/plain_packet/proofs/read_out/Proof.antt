@@ -1,7 +1,7 @@
--- `nuvaskoe::read_out` meets its contract: each arm is a case of the definition. Assumes nothing.
+-- `plain_packet::read_out` meets its contract: each arm is a case of the definition. Assumes nothing.
 use borrow.Author.Needs.{needs}
-use Rattle.nuvaskoe.proofs.read_out.Statement.{statement}
-use Rattle.nuvaskoe.proofs.read_out.Tie as tie
+use Rattle.plain_packet.proofs.read_out.Statement.{statement}
+use Rattle.plain_packet.proofs.read_out.Tie as tie
 
 enum-known-r : tie.Need-enum-known-r
 enum-known-r c = search needs

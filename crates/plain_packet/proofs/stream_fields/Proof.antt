@@ -1,7 +1,7 @@
--- `nuvaskoe::stream_fields` meets its contract: the fields in the order of the definition. Assumes nothing.
+-- `plain_packet::stream_fields` meets its contract: the fields in the order of the definition. Assumes nothing.
 use borrow.Author.Needs.{needs}
-use Rattle.nuvaskoe.proofs.stream_fields.Statement.{statement}
-use Rattle.nuvaskoe.proofs.stream_fields.Tie as tie
+use Rattle.plain_packet.proofs.stream_fields.Statement.{statement}
+use Rattle.plain_packet.proofs.stream_fields.Tie as tie
 
 cast-t2 : tie.Need-cast-t2
 cast-t2 c = search needs

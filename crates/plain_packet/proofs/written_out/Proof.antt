@@ -1,7 +1,7 @@
--- `nuvaskoe::written_out` meets its contract: each arm is a case of the definition. Assumes nothing.
+-- `plain_packet::written_out` meets its contract: each arm is a case of the definition. Assumes nothing.
 use borrow.Author.Needs.{needs}
-use Rattle.nuvaskoe.proofs.written_out.Statement.{statement}
-use Rattle.nuvaskoe.proofs.written_out.Tie as tie
+use Rattle.plain_packet.proofs.written_out.Statement.{statement}
+use Rattle.plain_packet.proofs.written_out.Tie as tie
 
 enum-known-w : tie.Need-enum-known-w
 enum-known-w c = search needs

@@ -1,7 +1,7 @@
--- `nuvaskoe::card_out` meets its contract: each arm is a case of the definition. Assumes nothing.
+-- `plain_packet::card_out` meets its contract: each arm is a case of the definition. Assumes nothing.
 use borrow.Author.Needs.{needs}
-use Rattle.nuvaskoe.proofs.card_out.Statement.{statement}
-use Rattle.nuvaskoe.proofs.card_out.Tie as tie
+use Rattle.plain_packet.proofs.card_out.Statement.{statement}
+use Rattle.plain_packet.proofs.card_out.Tie as tie
 
 enum-known-c : tie.Need-enum-known-c
 enum-known-c c = search needs

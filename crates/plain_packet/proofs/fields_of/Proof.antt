@@ -1,7 +1,7 @@
--- `nuvaskoe::fields_of` meets its contract: each arm is a case of the definition. Assumes nothing.
+-- `plain_packet::fields_of` meets its contract: each arm is a case of the definition. Assumes nothing.
 use borrow.Author.Needs.{needs}
-use Rattle.nuvaskoe.proofs.fields_of.Statement.{statement}
-use Rattle.nuvaskoe.proofs.fields_of.Tie as tie
+use Rattle.plain_packet.proofs.fields_of.Statement.{statement}
+use Rattle.plain_packet.proofs.fields_of.Tie as tie
 
 enum-known-b : tie.Need-enum-known-b
 enum-known-b c = search needs

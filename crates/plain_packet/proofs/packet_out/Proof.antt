@@ -1,7 +1,7 @@
--- `nuvaskoe::packet_out` meets its contract: each arm is a case of the definition. Assumes nothing.
+-- `plain_packet::packet_out` meets its contract: each arm is a case of the definition. Assumes nothing.
 use borrow.Author.Needs.{needs}
-use Rattle.nuvaskoe.proofs.packet_out.Statement.{statement}
-use Rattle.nuvaskoe.proofs.packet_out.Tie as tie
+use Rattle.plain_packet.proofs.packet_out.Statement.{statement}
+use Rattle.plain_packet.proofs.packet_out.Tie as tie
 
 enum-known-h : tie.Need-enum-known-h
 enum-known-h c = search needs

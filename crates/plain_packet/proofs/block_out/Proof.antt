@@ -1,7 +1,7 @@
--- `nuvaskoe::block_out` meets its contract: each arm is a case of the definition. Assumes nothing.
+-- `plain_packet::block_out` meets its contract: each arm is a case of the definition. Assumes nothing.
 use borrow.Author.Needs.{needs}
-use Rattle.nuvaskoe.proofs.block_out.Statement.{statement}
-use Rattle.nuvaskoe.proofs.block_out.Tie as tie
+use Rattle.plain_packet.proofs.block_out.Statement.{statement}
+use Rattle.plain_packet.proofs.block_out.Tie as tie
 
 enum-known-b : tie.Need-enum-known-b
 enum-known-b c = search needs

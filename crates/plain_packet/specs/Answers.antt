@@ -19,10 +19,10 @@ use Rattle.packet.specs.declared.PacketHead.{PacketHead}
 use Rattle.packet.specs.declared.PacketHead.the-variants.{Sent, Refused as Head·Refused}
 use Rattle.packet.specs.declared.BlockAt.{BlockAt}
 use Rattle.packet.specs.declared.BlockAt.the-variants.{Found, Refused as Block·Refused}
-use Rattle.nuvaskoe.specs.declared.Packet.{Packet}
-use Rattle.nuvaskoe.specs.declared.BlockFields.{BlockFields}
-use Rattle.nuvaskoe.specs.declared.Card.{Card}
-use Rattle.nuvaskoe.specs.declared.WrittenSize.{WrittenSize}
+use Rattle.plain_packet.specs.declared.Packet.{Packet}
+use Rattle.plain_packet.specs.declared.BlockFields.{BlockFields}
+use Rattle.plain_packet.specs.declared.Card.{Card}
+use Rattle.plain_packet.specs.declared.WrittenSize.{WrittenSize}
 
 abbrev pub none : Refusal
 none = record { number = 0; place = 0 }
