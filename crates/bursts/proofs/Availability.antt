@@ -1,6 +1,6 @@
 -- A figure is unavailable exactly where its denominator is 0: `Figures-right` of specs/Laws.antt. Assumes nothing.
-use Prim.Native.Nat.{ℕ, _-_, _*_, _/_, _≤_}
-use mathlib.Core.Path.{_≡_, refl, sym, ap, _∙_}
+use Prim.Native.Nat.{ℕ, _-_, _/_, _≤_}
+use mathlib.Core.Path.{_≡_, refl, sym}
 use mathlib.Core.Bool.{Bool, true, false}
 use mathlib.Core.Logic.{_↔_, _⊎_, inl, inr}
 use native.Mathlib.Omega.{arith}
@@ -9,7 +9,6 @@ use Rattle.refusal.specs.Table.{setting}
 use Rattle.refusal.specs.Answer.{unless}
 use Rattle.block.specs.Reading.{rateMax, unavailable}
 use Rattle.bursts.specs.declared.Sums.{Sums}
-use Rattle.bursts.specs.declared.Figures.{Figures}
 use Rattle.bursts.specs.declared.Measured.the-variants.{Accepted, Refused}
 use Rattle.bursts.specs.Groups.{square}
 use Rattle.bursts.specs.Sums.{meanDuration, sumsSound}

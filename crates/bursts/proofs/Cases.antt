@@ -1,9 +1,8 @@
 -- The cases of a figure: unavailable, over range, or the number; and how large a rate is. Assumes nothing.
 use Prim.Native.Nat.{ℕ, _-_, _*_, _/_, _<_, _≤_}
-use mathlib.Core.Path.{_≡_, refl, sym, ap, _∙_}
+use mathlib.Core.Path.{_≡_}
 use mathlib.Core.Bool.{true, false}
-use native.Mathlib.Omega.{arith}
-use native.Mathlib.Nat.{mul-comm, mul-le-mul-right, div-le-of-le-mul}
+use native.Mathlib.Nat.{mul-le-mul-right, div-le-of-le-mul}
 use borrow.Author.Tests.{le-leb, lt-leb, eq-eqb, ne-eqb}
 use Rattle.refusal.specs.Table.{setting}
 use Rattle.block.specs.Reading.{rateMax, unavailable}

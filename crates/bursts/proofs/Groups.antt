@@ -1,13 +1,13 @@
 -- Events and groups of a trace that gains one packet at its end. Assumes nothing.
-use Prim.Native.Nat.{ℕ, suc, _+_, _-_, _<_, _≤_}
-use mathlib.Core.Path.{_≡_, refl, sym, ap, _∙_}
+use Prim.Native.Nat.{ℕ, suc, _+_, _-_}
+use mathlib.Core.Path.{_≡_, refl, ap, _∙_}
 use mathlib.Core.Bool.{Bool, true, false, cond}
 use mathlib.Core.List.{List, [], _∷_, _++_}
 use native.Mathlib.Omega.{arith}
-use native.Mathlib.Nat.{add-zero, zero-add, add-suc}
-use lib.Dec.{leb, ltb}
+use native.Mathlib.Nat.{add-zero, zero-add}
+use lib.Dec.{ltb}
 use lib.ListN.{length}
-use Rattle.bursts.specs.Groups.{eventsFrom, eventsAt, Group, alone, between, grouped, groups, isBurst, bursts, total}
+use Rattle.bursts.specs.Groups.{eventsFrom, eventsAt, Group, alone, between, grouped, groups}
 
 -- the events of a trace with one more packet
 more-from : (event : ℕ → Bool) (at : ℕ) (s : List ℕ) (packet : ℕ) →

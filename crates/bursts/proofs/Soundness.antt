@@ -1,11 +1,11 @@
 -- What sound sums have, line by line of document 01's list, and the tests for it. Assumes nothing.
 use Prim.Native.Nat.{ℕ, _-_, _*_, _/_, _<_, _≤_}
-use mathlib.Core.Path.{_≡_, refl, sym, ap, _∙_}
-use mathlib.Core.Bool.{Bool, true, false, _&&_, _||_, and-true}
+use mathlib.Core.Path.{_≡_, sym, _∙_}
+use mathlib.Core.Bool.{true, false, _&&_, _||_, and-true}
 use native.Mathlib.Omega.{arith}
 use native.Mathlib.Nat.{mul-le-mul, div-le-self}
 use native.Mathlib.Decide.{ℕ-discrete}
-use borrow.Author.Tests.{leb-true, leb-false, eqb-true, le-leb, lt-leb, eq-eqb, ne-eqb}
+use borrow.Author.Tests.{leb-true, le-leb, lt-leb, eq-eqb, ne-eqb}
 use lib.Dec.{eqb, leb}
 use Rattle.refusal.proofs.Tests.{and-left, and-right, fails, same-leb, six}
 use Rattle.trace.specs.Trace.{traceMax}
@@ -32,7 +32,10 @@ module _ (s : Sums) where
   pub counts-of : countsSound s ≡ true → Counts s
   unfolding countsSound
   counts-of h =
-      let p = six (leb (s .packets) traceMax) (leb (s .«burst_packets») (s .packets)) (leb (s .«burst_events») (s .«burst_packets»)) (leb (s .«burst_events») (s .events)) (leb (s .events - s .«burst_events») (s .packets - s .«burst_packets»)) (leb (2 * s .bursts) (s .«burst_packets»)) h in
+      let p =
+      six (leb (s .packets) traceMax) (leb (s .«burst_packets») (s .packets)) (leb (s .«burst_events») (s .«burst_packets»))
+      (leb (s .«burst_events») (s .events)) (leb (s .events - s .«burst_events») (s .packets - s .«burst_packets»))
+      (leb (2 * s .bursts) (s .«burst_packets»)) h in
       record {
         most = leb-true _ _ (p .0);
         inside = leb-true _ _ (p .1);

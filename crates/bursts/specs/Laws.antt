@@ -1,5 +1,5 @@
 -- What callers may lean on, as statements about the definitions that the calls promise. Proved in proofs/.
-use Prim.Native.Nat.{ℕ, _≤_}
+use Prim.Native.Nat.{_≤_}
 use mathlib.Core.Path.{_≡_}
 use mathlib.Core.Logic.{_↔_, _⊎_}
 use Rattle.block.specs.Reading.{rateMax, unavailable}

@@ -1,14 +1,14 @@
 -- What a tally holds after a trace, in closed form: the sums over all groups but the last, and the last group as
 -- the open stretch. A packet more gives the same of the longer trace. Assumes nothing.
-use Prim.Native.Nat.{ℕ, suc, _+_, _-_, _<_, _≤_}
+use Prim.Native.Nat.{ℕ, _+_, _-_, _<_, _≤_}
 use mathlib.Core.Path.{_≡_, refl, sym, ap, _∙_}
 use mathlib.Core.Bool.{Bool, true, false, cond}
 use mathlib.Core.List.{List, [], _∷_, _++_, append-nil}
 use native.Mathlib.Omega.{arith}
 use native.Mathlib.Decide.{decLt}
-use native.Mathlib.Nat.{add-zero, zero-add, add-assoc, sub-self}
+use native.Mathlib.Nat.{add-zero, zero-add, add-assoc}
 use borrow.Author.Tests.{lt-ltb, le-ltb, le-leb, lt-leb}
-use lib.Dec.{leb, ltb}
+use lib.Dec.{ltb}
 use Rattle.refusal.proofs.Tests.{both}
 use lib.ListN.{length, length-append}
 use lib.Seq.{append-snoc}
@@ -20,8 +20,8 @@ use Rattle.bursts.specs.Sums.{sumsOver, sumsOf}
 use Rattle.bursts.proofs.Groups.{behind, groups-behind, more-event, more-other}
 use Rattle.tally.specs.declared.Stretch.{Stretch}
 use Rattle.tally.specs.declared.Tally.{Tally}
-use Rattle.tally.specs.Tally.{fresh, withBurst, countedIn, counted, onePacket, oneEvent, passed, joined, joins, stepOf}
-use Rattle.tally.proofs.Limits.{is-burst, no-burst}
+use Rattle.tally.specs.Tally.{fresh, withBurst, countedIn, counted, onePacket, oneEvent, passed, joined, joins, lone, stepOf}
+use Rattle.tally.proofs.Limits.{counted-cases}
 use Rattle.tally.proofs.Turns.{passes, belongs, begins}
 
 -- packets one after another, none refused
@@ -89,12 +89,8 @@ module _ (spacing E L F : ℕ) (bs : List Group) where
       rw (length-total (bursts (front bs)), length-total (bursts bs), total-last (λ e p. p) F bs h, total-last (λ e p. e) F bs h, total-last (λ e p. 1) F bs h, total-last (λ e p. duration spacing p) F bs h, total-last (λ e p. square (duration spacing p)) F bs h)
 
   pub sums-last : countedIn spacing (lastOf F bs) (sumsOver spacing E L (front bs)) ≡ sumsOver spacing E L bs
-  sums-last = go (decLt (lastOf F bs .events) burstMin)
-    where
-      go : Dec (lastOf F bs .events < burstMin) → countedIn spacing (lastOf F bs) (sumsOver spacing E L (front bs)) ≡ sumsOver spacing E L bs
-      go (yes few) = sym (no-burst spacing (lastOf F bs) (sumsOver spacing E L (front bs)) few) ∙ few-last few
-      go (no many) =
-          sym (is-burst spacing (lastOf F bs) (sumsOver spacing E L (front bs)) (omega arith)) ∙ many-last (omega arith)
+  sums-last =
+      counted-cases (λ (r : Sums). r ≡ sumsOver spacing E L bs) spacing (lastOf F bs) (sumsOver spacing E L (front bs)) few-last many-last
 
 -- a group in front of others does not change what the last is
 front-cons : (b : Group) (bs : List Group) → 0 < length bs → front (b ∷ bs) ≡ b ∷ front bs
@@ -143,7 +139,7 @@ module _ (gmin E : ℕ) where
   near-last (b ∷ b′ ∷ bs) i some near = gained-cons E b (behind gmin (b′ ∷ bs) E) (front (b′ ∷ bs)) _ (near-last (b′ ∷ bs) i some near)
 
   far-last : (bs : List Group) → Inside E bs → (0 < lastOf E bs .events → gmin ≤ lastOf E bs .since) →
-      Gained E (behind gmin bs E) bs (record { events = 1; packets = 1; since = 0 })
+      Gained E (behind gmin bs E) bs lone
   unfolding Inside behind lastOf front alone
   far-last [] i far =
       let one : E - E + 1 ≡ 1 = omega arith in

@@ -7,7 +7,7 @@ use native.Mathlib.Omega.{arith}
 use native.Mathlib.Decide.{decLt, decLe}
 use native.Mathlib.Nat.{mul-comm, mul-add, add-mul, mul-assoc, mul-left-comm, mul-le-mul, mul-le-mul-right, le-of-mul-le-mul-left, mul-div-le, le-div-iff-mul-le, zero-mul, suc-mul, one-mul}
 use borrow.Author.Tests.{ltb-true, le-leb}
-use lib.Dec.{leb, ltb}
+use lib.Dec.{ltb}
 use Rattle.refusal.proofs.Tests.{and-left}
 use Rattle.settings.specs.Ranges.{spacingMax, burstInRange}
 use Rattle.settings.proofs.Bounds.{burst}
@@ -15,12 +15,11 @@ use Rattle.trace.specs.declared.Event.{Event}
 use Rattle.trace.specs.Trace.{traceMax, countsAs}
 use Rattle.bursts.specs.declared.Sums.{Sums}
 use Rattle.bursts.specs.Groups.{burstMin, duration, square}
-use Rattle.bursts.specs.Sums.{meanDuration, durationsMax}
 use Rattle.bursts.proofs.Soundness.{Counts, Durations, counts-sound, durations-sound}
 use Rattle.tally.specs.declared.Stretch.{Stretch}
 use Rattle.tally.specs.declared.Tally.{Tally}
-use Rattle.tally.specs.Tally.{fresh, withBurst, countedIn, counted, openWithin, sound, onePacket, oneEvent, passed, joined, apart, joins, stepOf, with}
-use Rattle.tally.proofs.Limits.{is-burst, no-burst}
+use Rattle.tally.specs.Tally.{fresh, withBurst, countedIn, counted, openWithin, sound, onePacket, oneEvent, passed, joined, apart, joins, stepOf, with, lone}
+use Rattle.tally.proofs.Limits.{counted-cases}
 use Rattle.tally.proofs.Turns.{passes, belongs, begins}
 
 -- squares of sums
@@ -68,59 +67,55 @@ mean-square S n Q h some = le-div-iff-mul-le some .1 (le-of-mul-le-mul-left {k =
     scaled : n * (square m * n) ≤ n * Q
     scaled = let e = regroup in let l = mul-le-mul (mul-div-le S n) (mul-div-le S n) in omega arith
 
--- Sums whose bursts have two events or more, no more events than packets, and durations of their own.
-pub record Fair (spacing : ℕ) (s : Sums) : Type 0 where
-  pub dense : s .«burst_events» ≤ s .«burst_packets»
-  pub pairs : 2 * s .bursts ≤ s .«burst_packets»
-  pub long : 1000 * s .durations ≤ s .«burst_packets» * spacing
-  pub squares : s .squares ≤ square (s .durations)
-  pub spread : square (s .durations) ≤ s .bursts * s .squares
+-- Bursts have two packets or more, no more events than packets, and durations of their own: what is so of the five
+-- sums over bursts.
+pub record Fair (spacing packets events bursts durations squares : ℕ) : Type 0 where
+  pub dense : events ≤ packets
+  pub pairs : 2 * bursts ≤ packets
+  pub long : 1000 * durations ≤ packets * spacing
+  pub squares-most : squares ≤ square durations
+  pub spread : square durations ≤ bursts * squares
 
-fair-burst : (spacing : ℕ) (o : Stretch) (s : Sums) → Fair spacing s → burstMin ≤ o .events → o .events ≤ o .packets → Fair spacing (withBurst spacing o s)
+abbrev pub FairOf : ℕ → Sums → Type 0
+FairOf spacing s = Fair spacing (s .«burst_packets») (s .«burst_events») (s .bursts) (s .durations) (s .squares)
+
+fair-burst : (spacing : ℕ) (o : Stretch) (s : Sums) → FairOf spacing s → burstMin ≤ o .events → o .events ≤ o .packets →
+    FairOf spacing (withBurst spacing o s)
 unfolding withBurst duration
 fair-burst spacing o s f many dense =
     let d = o .packets * spacing / 1000 in
-    let long = f .long in
-    let squares = f .squares in
-    let spread = f .spread in
-    let least = mul-div-le (o .packets * spacing) 1000 in
+    let lasts = mul-div-le (o .packets * spacing) 1000 in
     let wide = add-mul (s .«burst_packets») (o .packets) spacing in
     let sum = square-add (s .durations) d in
-    let more = cross (s .durations) (s .bursts) (s .squares) d spread in
+    let more = cross (s .durations) (s .bursts) (s .squares) d (f .spread) in
     let product = add-mul (s .bursts) 1 (s .squares + square d) in
     let product′ = mul-add (s .bursts) (s .squares) (square d) in
     let one = one-mul (s .squares + square d) in
-    record {
-      dense = let e = f .dense in omega arith;
-      pairs = let e = f .pairs in omega arith;
-      long = omega arith;
-      squares = omega arith;
-      spread = omega arith;
-    }
+    record { dense = omega arith; pairs = omega arith; long = omega arith; squares-most = omega arith; spread = omega arith }
 
-pub fair-counted : (spacing : ℕ) (o : Stretch) (s : Sums) → Fair spacing s → o .events ≤ o .packets → Fair spacing (countedIn spacing o s)
-fair-counted spacing o s f dense = go (decLt (o .events) burstMin)
-  where
-    go : Dec (o .events < burstMin) → Fair spacing (countedIn spacing o s)
-    go (yes few) = rw (← no-burst spacing o s few) f
-    go (no many) = rw (← is-burst spacing o s (omega arith)) (fair-burst spacing o s f (omega arith) dense)
+fair-counted : (spacing : ℕ) (o : Stretch) (s : Sums) → FairOf spacing s → o .events ≤ o .packets → FairOf spacing (countedIn spacing o s)
+fair-counted spacing o s f dense =
+    counted-cases (FairOf spacing) spacing o s (λ few. f) (λ many. fair-burst spacing o s f many dense)
 
 -- What holds of a tally that was opened and took any packets.
 pub record Kept (t : Tally) : Type 0 where
   pub ranges : burstInRange (t .gmin) (t .spacing) ≡ true
-  pub fair : Fair (t .spacing) (t .sums)
-  pub stretch-dense : t .stretch .events ≤ t .stretch .packets
+  pub fair : FairOf (t .spacing) (t .sums)
+  pub dense : t .stretch .events ≤ t .stretch .packets
   pub room : t .sums .«burst_packets» + t .stretch .packets + t .stretch .since ≤ t .sums .packets
   pub counted-events : t .sums .«burst_events» + t .stretch .events ≤ t .sums .events
-  pub gaps : t .sums .events + t .sums .«burst_packets» + t .stretch .packets + t .stretch .since ≤ t .sums .packets + t .sums .«burst_events» + t .stretch .events
+  pub gaps :
+      t .sums .events + t .sums .«burst_packets» + t .stretch .packets + t .stretch .since
+      ≤ t .sums .packets + t .sums .«burst_events» + t .stretch .events
 
 pub kept-fresh : (gmin spacing : ℕ) (event : Event) → burstInRange gmin spacing ≡ true → Kept (fresh gmin spacing event)
 unfolding fresh
 kept-fresh gmin spacing event h =
+    let none = zero-mul spacing in
     record {
       ranges = h;
-      fair = record { dense = omega arith; pairs = omega arith; long = let e = zero-mul spacing in omega arith; squares = omega arith; spread = omega arith };
-      stretch-dense = omega arith;
+      fair = record { dense = omega arith; pairs = omega arith; long = omega arith; squares-most = omega arith; spread = omega arith };
+      dense = omega arith;
       room = omega arith;
       counted-events = omega arith;
       gaps = omega arith;
@@ -137,139 +132,77 @@ module _ (t : Tally) (k : Kept t) where
   kept-passed : Kept (passed t)
   unfolding passed onePacket
   kept-passed =
-      let f = k .fair in
-      let r = k .room in
-      let e = k .counted-events in
-      let g = k .gaps in
-      record {
-        ranges = k .ranges;
-        fair = record { dense = f .dense; pairs = f .pairs; long = f .long; squares = f .squares; spread = f .spread };
-        stretch-dense = k .stretch-dense;
-        room = omega arith;
-        counted-events = e;
-        gaps = omega arith;
-      }
+      record { ranges = k .ranges; fair = k .fair; dense = k .dense; room = omega arith; counted-events = omega arith; gaps = omega arith }
 
-  kept-joined : joins t ≡ true → Kept (joined t)
-  unfolding joined oneEvent joins
-  kept-joined j =
-      let f = k .fair in
-      let d = k .stretch-dense in
-      let r = k .room in
-      let e = k .counted-events in
-      let g = k .gaps in
-      let some = ltb-true 0 (t .stretch .events) (and-left (ltb 0 (t .stretch .events)) (ltb (t .stretch .since) (t .gmin)) j) in
-      record {
-        ranges = k .ranges;
-        fair = record { dense = f .dense; pairs = f .pairs; long = f .long; squares = f .squares; spread = f .spread };
-        stretch-dense = omega arith;
-        room = omega arith;
-        counted-events = omega arith;
-        gaps = omega arith;
-      }
-
-  kept-few : t .stretch .events < burstMin → Kept (with t (oneEvent (t .sums)) (record { events = 1; packets = 1; since = 0 }))
-  unfolding oneEvent
-  kept-few few =
-      let f = k .fair in
-      let d = k .stretch-dense in
-      let r = k .room in
-      let e = k .counted-events in
-      let g = k .gaps in
-      record {
-        ranges = k .ranges;
-        fair = record { dense = f .dense; pairs = f .pairs; long = f .long; squares = f .squares; spread = f .spread };
-        stretch-dense = omega arith;
-        room = omega arith;
-        counted-events = omega arith;
-        gaps = omega arith;
-      }
-
-  kept-many : burstMin ≤ t .stretch .events → Kept (with t (withBurst (t .spacing) (t .stretch) (oneEvent (t .sums))) (record { events = 1; packets = 1; since = 0 }))
-  unfolding oneEvent withBurst
-  kept-many many =
-      let f = fair-burst (t .spacing) (t .stretch) (t .sums) (k .fair) many (k .stretch-dense) in
-      let r = k .room in
-      let e = k .counted-events in
-      let g = k .gaps in
-      record {
-        ranges = k .ranges;
-        fair = record { dense = f .dense; pairs = f .pairs; long = f .long; squares = f .squares; spread = f .spread };
-        stretch-dense = omega arith;
-        room = omega arith;
-        counted-events = omega arith;
-        gaps = omega arith;
-      }
+  kept-joined : Kept (joined t)
+  unfolding joined oneEvent
+  kept-joined =
+      record { ranges = k .ranges; fair = k .fair; dense = omega arith; room = omega arith; counted-events = omega arith; gaps = omega arith }
 
   kept-apart : Kept (apart t)
-  unfolding apart
-  kept-apart = go (decLt (t .stretch .events) burstMin)
-    where
-      go : Dec (t .stretch .events < burstMin) → Kept (apart t)
-      go (yes few) = rw (← no-burst (t .spacing) (t .stretch) (oneEvent (t .sums)) few) (kept-few few)
-      go (no many) = rw (← is-burst (t .spacing) (t .stretch) (oneEvent (t .sums)) (omega arith)) (kept-many (omega arith))
+  unfolding apart withBurst oneEvent
+  kept-apart =
+      counted-cases (λ (r : Sums). Kept (with t r lone)) (t .spacing) (t .stretch) (oneEvent (t .sums))
+      (λ few. record { ranges = k .ranges; fair = k .fair; dense = omega arith; room = omega arith; counted-events = omega arith; gaps = omega arith })
+      (λ many. record {
+        ranges = k .ranges;
+        fair = fair-burst (t .spacing) (t .stretch) (t .sums) (k .fair) many (k .dense);
+        dense = omega arith;
+        room = omega arith;
+        counted-events = omega arith;
+        gaps = omega arith;
+      })
 
   pub kept-step : (packet : ℕ) → Kept (stepOf t packet)
   unfolding apart
   kept-step packet = go (countsAs (t .event) packet) (joins t) refl refl
     where
       go : (h j : Bool) → countsAs (t .event) packet ≡ h → joins t ≡ j → Kept (stepOf t packet)
-      go true true h j = rw (← belongs t packet h j) (kept-joined j)
+      go true true h j = rw (← belongs t packet h j) kept-joined
       go true false h j = rw (← begins t packet _ h j refl) kept-apart
       go false j h e = rw (← passes t packet h) kept-passed
 
   -- With its stretch counted in, and at most so many packets, it is sound.
-  few-placed : t .stretch .events < burstMin → Placed t (t .sums)
-  few-placed few =
-      let d = k .stretch-dense in
-      let r = k .room in
-      let e = k .counted-events in
-      let g = k .gaps in
-      record { packets = refl; inside = omega arith; counted-events = omega arith; gaps = omega arith }
-
-  many-placed : burstMin ≤ t .stretch .events → Placed t (withBurst (t .spacing) (t .stretch) (t .sums))
-  unfolding withBurst
-  many-placed many =
-      let r = k .room in
-      let e = k .counted-events in
-      let g = k .gaps in
-      record { packets = refl; inside = omega arith; counted-events = omega arith; gaps = omega arith }
-
   placed : Placed t (counted t)
-  placed = go (decLt (t .stretch .events) burstMin)
-    where
-      go : Dec (t .stretch .events < burstMin) → Placed t (counted t)
-      go (yes few) = rw (← no-burst (t .spacing) (t .stretch) (t .sums) few) (few-placed few)
-      go (no many) = rw (← is-burst (t .spacing) (t .stretch) (t .sums) (omega arith)) (many-placed (omega arith))
+  unfolding withBurst
+  placed =
+      counted-cases (Placed t) (t .spacing) (t .stretch) (t .sums)
+      (λ few. record { packets = refl; inside = omega arith; counted-events = omega arith; gaps = omega arith })
+      (λ many. record { packets = refl; inside = omega arith; counted-events = omega arith; gaps = omega arith })
+
+  all-fair : FairOf (t .spacing) (counted t)
+  all-fair = fair-counted (t .spacing) (t .stretch) (t .sums) (k .fair) (k .dense)
 
   module _ (most : t .sums .packets ≤ traceMax) where
     kept-counts : Counts (counted t)
     kept-counts =
         let p = placed in
-        let f = fair-counted (t .spacing) (t .stretch) (t .sums) (k .fair) (k .stretch-dense) in
-        record { most = omega arith; inside = omega arith; dense = f .dense; counted = p .counted-events; gaps = omega arith; pairs = f .pairs }
+        let f = all-fair in
+        record { most = omega arith; inside = omega arith; dense = omega arith; counted = omega arith; gaps = omega arith; pairs = omega arith }
 
     kept-durations : Durations (counted t)
     kept-durations =
         let p = placed in
-        let f = fair-counted (t .spacing) (t .stretch) (t .sums) (k .fair) (k .stretch-dense) in
+        let f = all-fair in
         let narrow = burst (t .gmin) (t .spacing) (k .ranges) .second .most in
         let product = mul-le-mul {n₂ = traceMax} {m₂ = spacingMax} (kept-counts .most) narrow in
         let inside = mul-le-mul-right (t .spacing) (p .inside) in
-        let long = f .long in
         record {
           most = omega arith;
-          squares = f .squares;
+          squares = f .squares-most;
           spread = λ some. mean-square (counted t .durations) (counted t .bursts) (counted t .squares) (f .spread) (omega arith);
         }
 
     kept-within : openWithin (t .stretch) (t .sums .packets) ≡ true
     unfolding openWithin
     kept-within =
-        let d = k .stretch-dense in
-        let r = k .room in
-        rw (le-leb (t .stretch .events) (t .sums .packets) (omega arith), le-leb (t .stretch .packets) (t .sums .packets) (omega arith), le-leb (t .stretch .since) (t .sums .packets) (omega arith))
+        rw (
+          le-leb (t .stretch .events) (t .sums .packets) (omega arith),
+          le-leb (t .stretch .packets) (t .sums .packets) (omega arith),
+          le-leb (t .stretch .since) (t .sums .packets) (omega arith),
+        )
 
     pub kept-sound : sound t ≡ true
     unfolding sound
-    kept-sound = rw (k .ranges, counts-sound (counted t) kept-counts, kept-within, durations-sound (counted t) kept-durations)
+    kept-sound =
+        rw (k .ranges, counts-sound (counted t) kept-counts, kept-within, durations-sound (counted t) kept-durations)

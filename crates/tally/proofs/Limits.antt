@@ -1,13 +1,14 @@
 -- Why the bounds that the code tests first are no more than soundness asks for: counting the open stretch in
 -- makes no sum smaller. Assumes nothing.
-use Prim.Native.Nat.{ℕ, _+_, _*_, _<_, _≤_}
-use mathlib.Core.Path.{_≡_, refl, sym, ap, _∙_}
-use mathlib.Core.Bool.{Bool, true, false, _&&_, and-true}
+use Prim.Native.Nat.{ℕ, _<_, _≤_}
+use mathlib.Core.Path.{_≡_, refl, sym}
+use mathlib.Core.Bool.{true, false, _&&_, and-true}
 use native.Mathlib.Omega.{arith}
 use native.Mathlib.Decide.{decLt}
+use borrow.Author.Needs.{needs}
 use borrow.Author.Tests.{leb-true, le-leb, lt-leb}
 use lib.Dec.{leb}
-use Rattle.refusal.proofs.Tests.{and-left, and-right, both, fails, six}
+use Rattle.refusal.proofs.Tests.{and-left, and-right, fails, six}
 use Rattle.settings.specs.Ranges.{burstInRange}
 use Rattle.settings.proofs.Bounds.{burst}
 use Rattle.trace.specs.Trace.{traceMax}
@@ -18,7 +19,7 @@ use Rattle.bursts.proofs.Soundness.{Counts, Durations, counts-of, durations-of,
 use Rattle.tally.specs.declared.Stretch.{Stretch}
 use Rattle.tally.specs.declared.Tally.{Tally}
 use Rattle.tally.specs.Tally.{withBurst, countedIn, counted, openWithin, sound}
-use Rattle.tally.specs.Steps.{Room, Bounded, sumsWithin, bounded}
+use Rattle.tally.specs.Steps.{Bounded, sumsWithin, bounded}
 
 -- the cases of counting a stretch in
 pub is-burst : (spacing : ℕ) (o : Stretch) (s : Sums) → burstMin ≤ o .events → withBurst spacing o s ≡ countedIn spacing o s
@@ -28,6 +29,15 @@ is-burst spacing o s h = rw (le-leb burstMin (o .events) h)
 pub no-burst : (spacing : ℕ) (o : Stretch) (s : Sums) → o .events < burstMin → s ≡ countedIn spacing o s
 unfolding countedIn
 no-burst spacing o s h = rw (lt-leb burstMin (o .events) h)
+
+-- what holds of the sums as they are, or with the burst, holds of them with the stretch counted in
+pub counted-cases : (P : Sums → Type 0) (spacing : ℕ) (o : Stretch) (s : Sums) → (o .events < burstMin → P s) →
+    (burstMin ≤ o .events → P (withBurst spacing o s)) → P (countedIn spacing o s)
+counted-cases P spacing o s few many = go (decLt (o .events) burstMin)
+  where
+    go : Dec (o .events < burstMin) → P (countedIn spacing o s)
+    go (yes l) = rw (← no-burst spacing o s l) (few l)
+    go (no l) = rw (← is-burst spacing o s (omega arith)) (many (omega arith))
 
 -- sums that are no smaller, over as many packets and events
 pub record Grown (s r : Sums) : Type 0 where
@@ -39,17 +49,9 @@ pub record Grown (s r : Sums) : Type 0 where
   pub durations : s .durations ≤ r .durations
   pub squares : s .squares ≤ r .squares
 
-pub grown : (spacing : ℕ) (o : Stretch) (s : Sums) (r : Sums) → countedIn spacing o s ≡ r → Grown s r
+pub grown : (spacing : ℕ) (o : Stretch) (s : Sums) → Grown s (countedIn spacing o s)
 unfolding withBurst
-grown spacing o s r e = go (decLt (o .events) burstMin)
-  where
-    go : Dec (o .events < burstMin) → Grown s r
-    go (yes few) =
-        rw (← e, ← no-burst spacing o s few)
-        (record { packets = refl; events = refl; burst-packets = omega arith; burst-events = omega arith; bursts = omega arith; durations = omega arith; squares = omega arith })
-    go (no many) =
-        rw (← e, ← is-burst spacing o s (omega arith))
-        (record { packets = refl; events = refl; burst-packets = omega arith; burst-events = omega arith; bursts = omega arith; durations = omega arith; squares = omega arith })
+grown spacing o s = counted-cases (Grown s) spacing o s (λ few. search needs) (λ many. search needs)
 
 -- what a sound tally has
 pub record Sound (t : Tally) : Type 0 where
@@ -82,9 +84,19 @@ module _ (t : Tally) where
       let s = sound-of h in
       let n = s .counts in
       let d = s .durations in
-      let g = grown (t .spacing) (t .stretch) (t .sums) (counted t) refl in
+      let g = grown (t .spacing) (t .stretch) (t .sums) in
       let q = square-small (counted t .durations) (d .most) in
-      rw (le-leb (t .sums .packets) traceMax (omega arith), s .within, le-leb (t .sums .events) (t .sums .packets) (omega arith), le-leb (t .sums .«burst_packets») (t .sums .packets) (omega arith), le-leb (t .sums .«burst_events») (t .sums .packets) (omega arith), le-leb (t .sums .bursts) (t .sums .packets) (omega arith), le-leb (t .sums .durations) durationsMax (omega arith), le-leb (t .sums .squares) (square durationsMax) (omega arith))
+      let u = t .sums in
+      rw (
+        le-leb (u .packets) traceMax (omega arith),
+        s .within,
+        le-leb (u .events) (u .packets) (omega arith),
+        le-leb (u .«burst_packets») (u .packets) (omega arith),
+        le-leb (u .«burst_events») (u .packets) (omega arith),
+        le-leb (u .bursts) (u .packets) (omega arith),
+        le-leb (u .durations) durationsMax (omega arith),
+        le-leb (u .squares) (square durationsMax) (omega arith),
+      )
 
   -- the cases of the test
   pub out-of-range : burstInRange (t .gmin) (t .spacing) ≡ false → false ≡ sound t
@@ -121,7 +133,10 @@ module _ (t : Tally) where
       let oe = leb-true (o .events) (s .packets) (and-left e p (and-left (e && p) i ow)) in
       let op = leb-true (o .packets) (s .packets) (and-right e p (and-left (e && p) i ow)) in
       let og = leb-true (o .since) (s .packets) (and-right (e && p) i ow) in
-      let m = six (leb (s .events) (s .packets)) (leb (s .«burst_packets») (s .packets)) (leb (s .«burst_events») (s .packets)) (leb (s .bursts) (s .packets)) (leb (s .durations) durationsMax) (leb (s .squares) (square durationsMax)) (and-right (a && w) (sumsWithin s) h) in
+      let m =
+      six (leb (s .events) (s .packets)) (leb (s .«burst_packets») (s .packets)) (leb (s .«burst_events») (s .packets))
+      (leb (s .bursts) (s .packets)) (leb (s .durations) durationsMax) (leb (s .squares) (square durationsMax))
+      (and-right (a && w) (sumsWithin s) h) in
       let m₀ = leb-true (s .events) (s .packets) (m .0) in
       let m₁ = leb-true (s .«burst_packets») (s .packets) (m .1) in
       let m₂ = leb-true (s .«burst_events») (s .packets) (m .2) in

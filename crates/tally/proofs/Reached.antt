@@ -2,15 +2,15 @@
 use Prim.Native.Nat.{ℕ, suc, _+_, _<_, _≤_, min}
 use mathlib.Core.Path.{_≡_, refl, sym, ap, _∙_}
 use mathlib.Core.Bool.{Bool, true, false}
-use mathlib.Core.List.{List, [], _∷_, _++_}
+use mathlib.Core.List.{List, [], _∷_}
 use native.Mathlib.Omega.{arith}
-use lib.ListN.{length, getD, take, drop, length-take}
+use lib.ListN.{length, getD, take, length-take}
 use lib.Seq.{getD-take}
 use Rattle.refusal.specs.Table.{setting}
 use Rattle.refusal.specs.Answer.{unless}
 use Rattle.settings.specs.Ranges.{burstInRange}
 use Rattle.trace.specs.declared.Event.{Event}
-use Rattle.trace.specs.Trace.{packetMax, traceMax, countsAs, judged}
+use Rattle.trace.specs.Trace.{packetMax, traceMax, countsAs}
 use Rattle.trace.specs.Laws.{Sound}
 use Rattle.trace.proofs.Judging.{accepted-sound}
 use Rattle.bursts.specs.declared.Measured.the-variants.{Accepted as Measured·Accepted}
@@ -20,12 +20,11 @@ use Rattle.bursts.specs.Figures.{figuresOf, rateOf, meanOf, varianceOf}
 use Rattle.tally.specs.declared.Tally.{Tally}
 use Rattle.tally.specs.declared.Opened.the-variants.{Accepted, Refused}
 use Rattle.tally.specs.declared.Answer.the-variants.{Accepted as Answer·Accepted}
-use Rattle.tally.specs.declared.Taken.{Taken}
-use Rattle.tally.specs.Tally.{fresh, openOf, withBurst, countedIn, counted, sound, onePacket, oneEvent, passed, joined, apart, joins, stepOf, takeOne, closeOf, takeAll}
-use Rattle.tally.specs.Laws.{Given, Takes-all, Sound-throughout, Counts-all, Closes-with-figures, Closes-empty}
-use Rattle.tally.proofs.Limits.{Grown, grown}
+use Rattle.tally.specs.Tally.{fresh, openOf, counted, sound, onePacket, oneEvent, passed, joined, apart, joins, stepOf, takeOne, closeOf, takeAll}
+use Rattle.tally.specs.Laws.{Takes-all, Sound-throughout, Counts-all, Closes-with-figures, Closes-empty}
+use Rattle.tally.proofs.Limits.{grown}
 use Rattle.tally.proofs.Turns.{passes, belongs, begins, taken}
-use Rattle.tally.proofs.Holding.{stepAll, tallyOf, AllInside, none-held, none-inside, all-held, counted-all}
+use Rattle.tally.proofs.Holding.{stepAll, tallyOf, none-held, none-inside, all-held, counted-all}
 use Rattle.tally.proofs.Kept.{Kept, kept-fresh, kept-step, kept-sound}
 
 -- every step is one packet more
@@ -35,7 +34,7 @@ step-packets t packet = go (countsAs (t .event) packet) (joins t) refl refl
   where
     go : (h j : Bool) → countsAs (t .event) packet ≡ h → joins t ≡ j → stepOf t packet .sums .packets ≡ t .sums .packets + 1
     go true true h j = rw (← belongs t packet h j)
-    go true false h j = rw (← begins t packet _ h j refl) (grown (t .spacing) (t .stretch) (oneEvent (t .sums)) _ refl .packets)
+    go true false h j = rw (← begins t packet _ h j refl) (grown (t .spacing) (t .stretch) (oneEvent (t .sums)) .packets)
     go false j h e = rw (← passes t packet h)
 
 -- packets that are all good

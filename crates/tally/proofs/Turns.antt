@@ -1,9 +1,9 @@
 -- The cases of a tally's calls, in the order of the refusals. Assumes nothing.
-use Prim.Native.Nat.{ℕ, _+_, _*_, _/_, _<_, _≤_}
-use mathlib.Core.Path.{_≡_, refl, sym, ap, _∙_}
-use mathlib.Core.Bool.{Bool, true, false}
+use Prim.Native.Nat.{ℕ, _<_, _≤_}
+use mathlib.Core.Path.{_≡_}
+use mathlib.Core.Bool.{true, false}
 use native.Mathlib.Omega.{arith}
-use native.Mathlib.Nat.{mul-le-mul, zero-div}
+use native.Mathlib.Nat.{mul-le-mul}
 use borrow.Author.Tests.{lt-ltb, le-ltb, le-leb, lt-leb}
 use lib.Dec.{ltb}
 use Rattle.refusal.specs.Table.{setting, traceLength, traceByte}
@@ -11,19 +11,14 @@ use Rattle.settings.specs.Ranges.{spacingMax, burstInRange}
 use Rattle.trace.specs.declared.Event.{Event}
 use Rattle.trace.specs.Trace.{packetMax, traceMax, countsAs}
 use Rattle.bursts.specs.declared.Sums.{Sums}
-use Rattle.bursts.specs.declared.Measured.{Measured}
 use Rattle.bursts.specs.declared.Measured.the-variants.{Refused as Measured·Refused}
-use Rattle.bursts.specs.Groups.{duration, square}
+use Rattle.bursts.specs.Groups.{duration}
 use Rattle.bursts.specs.Sums.{durationsMax, sumsSound}
 use Rattle.bursts.specs.Figures.{measuredOf}
-use Rattle.bursts.proofs.Soundness.{square-small}
 use Rattle.tally.specs.declared.Tally.{Tally}
 use Rattle.tally.specs.declared.Opened.the-variants.{Accepted, Refused}
 use Rattle.tally.specs.declared.Answer.the-variants.{Accepted as Answer·Accepted}
-use Rattle.tally.specs.declared.Taken.{Taken}
-use Rattle.tally.specs.Tally.{fresh, openOf, countedIn, counted, oneEvent, with, sound, passed, joined, apart, joins, stepOf, refusedWith, takeOne, closeOf}
-use Rattle.tally.specs.Steps.{bounded}
-use Rattle.tally.proofs.Limits.{out-of-range, out-of-bounds, tested}
+use Rattle.tally.specs.Tally.{fresh, openOf, countedIn, counted, oneEvent, with, lone, sound, passed, joined, apart, joins, stepOf, refusedWith, takeOne, closeOf}
 
 -- a burst of so many packets lasts so long at most
 pub duration-small : (spacing packets : ℕ) → spacing ≤ spacingMax → packets ≤ traceMax → duration spacing packets ≤ durationsMax
@@ -64,7 +59,7 @@ module _ (t : Tally) where
     belongs h j = rw (h, j)
 
     pub begins : (s : Sums) → countsAs (t .event) packet ≡ true → joins t ≡ false → s ≡ countedIn (t .spacing) (t .stretch) (oneEvent (t .sums)) →
-        with t s (record { events = 1; packets = 1; since = 0 }) ≡ stepOf t packet
+        with t s lone ≡ stepOf t packet
     unfolding stepOf apart
     begins s h j e = rw (h, j, e)
 

@@ -101,17 +101,21 @@ with t s o = record { gmin = t .gmin; spacing = t .spacing; event = t .event; su
 -- a packet that is no event stands between the stretch and what follows
 unfoldable pub passed : Tally → Tally
 passed t =
-    with t (onePacket (t .sums)) (record { events = t .stretch .events; packets = t .stretch .packets; since = t .stretch .since + 1 })
+    let o = t .stretch in
+    with t (onePacket (t .sums)) (record { events = o .events; packets = o .packets; since = o .since + 1 })
 
 -- an event that belongs to the stretch, with the packets that stand before it
 unfoldable pub joined : Tally → Tally
 joined t =
-    with t (oneEvent (t .sums)) (record { events = t .stretch .events + 1; packets = t .stretch .packets + (t .stretch .since + 1); since = 0 })
+    let o = t .stretch in
+    with t (oneEvent (t .sums)) (record { events = o .events + 1; packets = o .packets + (o .since + 1); since = 0 })
 
 -- an event that begins a stretch of its own
+abbrev pub lone : Stretch
+lone = record { events = 1; packets = 1; since = 0 }
+
 unfoldable pub apart : Tally → Tally
-apart t =
-    with t (countedIn (t .spacing) (t .stretch) (oneEvent (t .sums))) (record { events = 1; packets = 1; since = 0 })
+apart t = with t (countedIn (t .spacing) (t .stretch) (oneEvent (t .sums))) lone
 
 -- "Two successive events belong together when fewer than Gmin packets stand between them."
 unfoldable pub joins : Tally → Bool

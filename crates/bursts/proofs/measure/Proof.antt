@@ -1,9 +1,8 @@
 -- `bursts::measure` meets its contract: what sound sums have is what the figures ask for. Assumes nothing.
-use mathlib.Core.Path.{_≡_, sym, ap, _∙_}
+use mathlib.Core.Path.{_≡_, sym, _∙_}
 use mathlib.Core.Bool.{true}
 use borrow.Author.Tests.{not-true, not-false}
 use Rattle.bursts.specs.Sums.{sumsSound}
-use Rattle.bursts.specs.declared.Measured.the-variants.{Accepted}
 use Rattle.bursts.specs.Figures.{figuresOf}
 use Rattle.bursts.proofs.Cases.{refused, accepted}
 use native.Mathlib.Omega.{arith}

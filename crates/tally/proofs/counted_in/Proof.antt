@@ -1,11 +1,9 @@
 -- `tally::counted_in` meets its contract: a stretch in bounds lasts no longer than all bursts may. Assumes nothing.
-use Prim.Native.Nat.{_≤_}
 use native.Mathlib.Nat.{mul-le-mul}
 use native.Mathlib.Omega.{arith}
 use Rattle.settings.specs.Ranges.{spacingMax}
 use Rattle.trace.specs.Trace.{traceMax}
 use Rattle.bursts.specs.Groups.{duration}
-use Rattle.bursts.specs.Sums.{durationsMax}
 use Rattle.bursts.proofs.Soundness.{square-small}
 use Rattle.tally.specs.Tally.{withBurst}
 use Rattle.tally.proofs.Limits.{is-burst, no-burst}

@@ -1,10 +1,10 @@
 -- `tally::over` meets its contract. The loop's invariant is `Running`. Assumes nothing.
 use Prim.Native.Nat.{_-_}
-use mathlib.Core.Path.{_≡_, sym, _∙_}
+use mathlib.Core.Path.{sym, _∙_}
 use native.Mathlib.Omega.{arith}
 use borrow.Author.Needs.{needs}
 use lib.ListN.{length}
-use Rattle.tally.proofs.Reached.{opened-fresh}
+use Rattle.tally.proofs.Reached.{Fresh, opened-fresh}
 use Rattle.tally.proofs.Running.{Running, running-bounded, running-more, running-end, over-range, over-refused, over-start, over-all}
 use Rattle.tally.proofs.over.Statement.{statement}
 use Rattle.tally.proofs.over.Tie as tie
@@ -14,6 +14,10 @@ Inv-loop trace gmin spacing tally₀ i₀ tally i = Running trace tally₀ tally
 
 abbrev μ-loop : tie.MeasureT-loop
 μ-loop trace gmin spacing tally₀ i₀ tally i = length trace - i
+
+-- what was opened, once an opening was accepted
+first : (c : tie.After-known-told Inv-loop μ-loop) → Fresh (c .before .before .before .before .before .args .gmin) (c .before .before .before .before .before .args .spacing) (c .before .before .before .before .before .args .event) (c .before .first .given .0 .0)
+first c = opened-fresh _ _ _ _ (sym (c .before .before .before .«open» .ensures) ∙ c .before .first .given .1)
 
 open-requires : tie.Need-open-requires Inv-loop μ-loop
 open-requires c κs = search needs
@@ -35,14 +39,14 @@ enum-known-why : tie.Need-enum-known-why Inv-loop μ-loop
 enum-known-why c = search needs
 
 returns-2 : tie.Need-returns-2 Inv-loop μ-loop
-returns-2 c = over-refused _ _ _ _ (opened-fresh _ _ _ _ (sym (c .before .before .before .before .before .before .before .«open» .ensures) ∙ c .before .before .before .before .before .first .given .1) .ranges) _ (sym (c .before .before .before .judge .ensures) ∙ c .before .why .given .1)
+returns-2 c = over-refused _ _ _ _ (first (c .before .before .before .before) .ranges) _ (sym (c .before .before .before .judge .ensures) ∙ c .before .why .given .1)
 
 enum-told-2 : tie.Need-enum-told-2 Inv-loop μ-loop
 enum-told-2 c = search needs
 
 loop-holds : tie.Need-loop-holds Inv-loop μ-loop
 loop-holds c =
-    let f = opened-fresh _ _ _ _ (sym (c .before .before .before .before .before .before .«open» .ensures) ∙ c .before .before .before .before .first .given .1) in
+    let f = first (c .before .before .before) in
     over-start _ _ _ _ (f .ranges) (sym (c .before .before .judge .ensures) ∙ c .enum-told2 .given .1) _ (f .none)
 
 shared-slice-read-step : tie.Need-shared-slice-read-step Inv-loop μ-loop
@@ -62,7 +66,7 @@ loop-again c = running-more _ _ _ _ _ (c .before .before .before .loop .inv) (om
 
 returns-3 : tie.Need-returns-3 Inv-loop μ-loop
 returns-3 c =
-    let f = opened-fresh _ _ _ _ (sym (c .before .before .before .before .before .before .before .before .«open» .ensures) ∙ c .before .before .before .before .before .before .first .given .1) in
+    let f = first (c .before .before .before .before .before) in
     over-all _ _ _ _ (f .ranges) (sym (c .before .before .before .before .judge .ensures) ∙ c .before .before .enum-told2 .given .1) _ _ (f .none)
     (running-end _ _ _ _ (c .before .loop .inv) (omega arith))
 

@@ -2,7 +2,6 @@
 use mathlib.Core.Path.{_≡_, sym, ap, _∙_}
 use mathlib.Core.Bool.{true}
 use borrow.Author.Tests.{not-true, not-false}
-use native.Mathlib.Omega.{arith}
 use Rattle.settings.specs.Ranges.{burstInRange}
 use Rattle.bursts.specs.Figures.{measuredOf}
 use Rattle.tally.specs.Steps.{bounded}
