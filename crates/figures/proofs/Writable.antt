@@ -12,6 +12,7 @@ use Rattle.refusal.specs.Table.{setting}
 use Rattle.refusal.specs.Answer.{unless}
 use Rattle.settings.specs.Ranges.{burstInRange}
 use Rattle.block.specs.Reading.{rateMax, unavailable, rateGood, flagGood, summaryFault}
+use Rattle.block.specs.declared.Block.the-variants.{Loss, Discard}
 use Rattle.trace.specs.declared.Event.{Event}
 use Rattle.trace.specs.declared.Judged.{Judged}
 use Rattle.trace.specs.declared.Judged.the-variants.{Accepted as Judged·Accepted, Refused as Judged·Refused}
@@ -54,8 +55,8 @@ writes s f r source flag word good-flag =
     let gap = small (f .«gap_rate») rateMax (omega arith) (r .gap-most) in
     let mean = small (f .«burst_mean») overRange (omega arith) (r .mean-most) in
     let variance = small (f .«burst_variance») overRange (omega arith) (r .variance-most) in (
-      record { let-through = through; reads-back = read-back (lossBlock f source flag) (word, burst, gap, mean, variance) through },
-      record { let-through = through; reads-back = read-back (discardBlock f source flag) (word, burst, gap) through },
+      record { let-through = through; reads-back = read-back (Loss (lossBlock f source flag)) (word, burst, gap, mean, variance) through },
+      record { let-through = through; reads-back = read-back (Discard (discardBlock f source flag)) (word, burst, gap) through },
     )
 
 -- what any tally closes with

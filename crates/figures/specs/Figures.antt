@@ -6,8 +6,8 @@ use mathlib.Core.List.{List}
 use Rattle.refusal.specs.Table.{setting}
 use Rattle.refusal.specs.Answer.{unless}
 use Rattle.settings.specs.Ranges.{burstInRange}
-use Rattle.block.specs.declared.Block.{Block}
-use Rattle.block.specs.declared.Block.the-variants.{Loss, Discard}
+use Rattle.block.specs.declared.LossSummary.{LossSummary}
+use Rattle.block.specs.declared.DiscardSummary.{DiscardSummary}
 use Rattle.trace.specs.declared.Event.{Event}
 use Rattle.trace.specs.Trace.{countsAs, judged, ifAccepted}
 use Rattle.bursts.specs.declared.Figures.{Figures}
@@ -21,18 +21,17 @@ figuresIn gmin spacing event s =
     unless (burstInRange gmin spacing) (Refused setting)
     (ifAccepted (judged s) Refused (Accepted (figuresOf (sumsOf (countsAs event) gmin spacing s))))
 
-abbrev pub lossBlock : Figures → ℕ → ℕ → Block
+abbrev pub lossBlock : Figures → ℕ → ℕ → LossSummary
 lossBlock f source flag =
-    Loss
-    (record {
+    record {
       flag = flag;
       source = source;
       «burst_rate» = f .«burst_rate»;
       «gap_rate» = f .«gap_rate»;
       «burst_mean» = f .«burst_mean»;
       «burst_variance» = f .«burst_variance»;
-    })
+    }
 
-abbrev pub discardBlock : Figures → ℕ → ℕ → Block
+abbrev pub discardBlock : Figures → ℕ → ℕ → DiscardSummary
 discardBlock f source flag =
-    Discard (record { flag = flag; source = source; «burst_rate» = f .«burst_rate»; «gap_rate» = f .«gap_rate» })
+    record { flag = flag; source = source; «burst_rate» = f .«burst_rate»; «gap_rate» = f .«gap_rate» }

@@ -5,6 +5,7 @@ use mathlib.Core.Bool.{true}
 use mathlib.Core.List.{List}
 use Rattle.block.specs.Reading.{flagGood}
 use Rattle.block.specs.declared.Block.{Block}
+use Rattle.block.specs.declared.Block.the-variants.{Loss, Discard}
 use Rattle.block.specs.declared.BlockRead.the-variants.{Typed}
 use Rattle.encode.specs.Words.{bytesOf, writable}
 use Rattle.encode.specs.Laws.{Word, readBytes}
@@ -32,7 +33,7 @@ pub record Writes (b : Block) : Type 0 where
 -- A block made from figures, with a good flag, is such a block: whether the figures are those of a trace or those
 -- that any tally closed with.
 abbrev pub BlocksWrite : Figures → Type 0
-BlocksWrite f = (source flag : ℕ) → Word source → flagGood flag ≡ true → Writes (lossBlock f source flag) × Writes (discardBlock f source flag)
+BlocksWrite f = (source flag : ℕ) → Word source → flagGood flag ≡ true → Writes (Loss (lossBlock f source flag)) × Writes (Discard (discardBlock f source flag))
 
 abbrev pub Trace-writes : Type 0
 Trace-writes = (gmin spacing : ℕ) (event : Event) (s : List ℕ) (f : Figures) → figuresIn gmin spacing event s ≡ Accepted f → BlocksWrite f
