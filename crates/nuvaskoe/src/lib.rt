@@ -6,11 +6,19 @@ use block::EffectiveLoss;
 use block::LossSummary;
 use block::Measurement;
 use block::StreamCounts;
+use bursts::Figures;
 use packet::Part;
 use plain_packet::BlockFields;
 use plain_packet::Card;
 use plain_packet::Packet;
 use plain_packet::WrittenSize;
+use plain_trace::EventRead;
+use plain_trace::Figured;
+use plain_trace::LossNumbers;
+use plain_trace::MarkCount;
+use plain_trace::Tallied;
+use plain_trace::TallyNumbers;
+use plain_trace::TallyRead;
 use settings::Settings;
 ghost use mathlib.Core.Path.{_≡_};
 ghost use Rattle.refusal.specs.Answer.{after};
@@ -21,6 +29,12 @@ ghost use Rattle.frame.specs.Packet.{packetOf};
 ghost use Rattle.packet.specs.Answers.{headOf, blockOf, partOf};
 ghost use Rattle.compose.specs.Writing.{newBytes, newAnswer, addAnswer, grown};
 ghost use Rattle.survey.specs.Survey.{listOf, listAnswer};
+ghost use Rattle.trace.specs.declared.Event.the-variants.{Lost};
+ghost use Rattle.figures.specs.Figures.{lossBlock, discardBlock};
+ghost use Rattle.batch.specs.Loss.{lossAnswer};
+ghost use Rattle.resend.specs.Answer.{planAnswer, bufferAfter};
+ghost use Rattle.plain_trace.specs.Answers.{eventIn, tallyIn, lossOut, marksOut};
+ghost use Rattle.nuvaskoe.specs.Calls.{openBy, takeBy, closeBy, figuresBy};
 ghost use Rattle.plain_packet.specs.Answers.{writtenOut, cardOut, packetOut, readOut, blockOut};
 
 // The settings on a card.
@@ -129,4 +143,103 @@ pub extern "C" fn nuvaskoe_packet_add_streams(out: &mut [u8], t: StreamCounts) -
     ensures buffer { λ r. ⌜ now (out .exit) ≡ after (addAnswer (now (out .entry)) (Streams t)) (grown (now (out .entry)) (Streams t)) (now (out .entry)) ⌝ }
 {
     plain_packet::written_out(compose::add(out, Block::Streams(t)))
+}
+
+// A tally that has taken no packet.
+#[no_mangle]
+pub extern "C" fn nuvaskoe_tally_open(gmin: u32, spacing: u32, event: u32) -> Tallied
+    ensures { λ r. ⌜ r ≡ openBy gmin spacing (eventIn event) ⌝ }
+{
+    match plain_trace::event_in(event) {
+        EventRead::Known(kind) => plain_trace::opened_out(tally::open(gmin, spacing, kind)),
+        EventRead::Unknown => Tallied {
+            refusal: refusal::SETTING,
+            tally: plain_trace::NO_TALLY,
+        },
+    }
+}
+
+// The tally after one more packet.
+#[no_mangle]
+pub extern "C" fn nuvaskoe_tally_take(given: TallyNumbers, packet: u8) -> Tallied
+    ensures { λ r. ⌜ r ≡ takeBy given packet (tallyIn given) ⌝ }
+{
+    match plain_trace::tally_in(given) {
+        TallyRead::Known(t) => plain_trace::taken_out(t.take(packet)),
+        TallyRead::Unknown => Tallied {
+            refusal: refusal::SETTING,
+            tally: given,
+        },
+    }
+}
+
+// The figures of all packets taken.
+#[no_mangle]
+pub extern "C" fn nuvaskoe_tally_close(given: TallyNumbers) -> Figured
+    ensures { λ r. ⌜ r ≡ closeBy (tallyIn given) ⌝ }
+{
+    match plain_trace::tally_in(given) {
+        TallyRead::Known(t) => plain_trace::figures_out(t.close()),
+        TallyRead::Unknown => Figured {
+            refusal: refusal::SETTING,
+            figures: plain_trace::NO_FIGURES,
+        },
+    }
+}
+
+// The figures of a whole trace.
+#[no_mangle]
+pub extern "C" fn nuvaskoe_figures(trace: &[u8], gmin: u32, spacing: u32, event: u32) -> Figured
+    ensures { λ r. ⌜ r ≡ figuresBy gmin spacing (now (trace .entry)) (eventIn event) ⌝ }
+{
+    match plain_trace::event_in(event) {
+        EventRead::Known(kind) => {
+            plain_trace::figures_out(figures::of_trace(trace, gmin, spacing, kind))
+        }
+        EventRead::Unknown => Figured {
+            refusal: refusal::SETTING,
+            figures: plain_trace::NO_FIGURES,
+        },
+    }
+}
+
+// The block 17 of figures, and the block 18.
+#[no_mangle]
+pub extern "C" fn nuvaskoe_loss_block(lost: Figures, source: u32, flag: u8) -> LossSummary
+    ensures { λ r. ⌜ r ≡ lossBlock lost source flag ⌝ }
+{
+    figures::loss_block(lost, source, flag)
+}
+
+#[no_mangle]
+pub extern "C" fn nuvaskoe_discard_block(
+    discarded: Figures,
+    source: u32,
+    flag: u8,
+) -> DiscardSummary
+    ensures { λ r. ⌜ r ≡ discardBlock discarded source flag ⌝ }
+{
+    figures::discard_block(discarded, source, flag)
+}
+
+// The effective loss of a trace.
+#[no_mangle]
+pub extern "C" fn nuvaskoe_effective_loss(trace: &[u8], batch: u32, threshold: u32) -> LossNumbers
+    ensures { λ r. ⌜ r ≡ lossOut (lossAnswer Lost (now (trace .entry)) batch threshold) ⌝ }
+{
+    plain_trace::loss_out(batch::effective_loss(trace, batch, threshold))
+}
+
+// The smallest resend plan of a trace.
+#[no_mangle]
+pub extern "C" fn nuvaskoe_resend_plan(
+    trace: &[u8],
+    batch: u32,
+    threshold: u32,
+    out: &mut [u8],
+) -> MarkCount
+    ensures answer { λ r. ⌜ r ≡ marksOut (planAnswer Lost (now (trace .entry)) batch threshold (now (out .entry))) ⌝ }
+    ensures buffer { λ r. ⌜ now (out .exit) ≡ bufferAfter Lost (now (trace .entry)) batch threshold (now (out .entry)) ⌝ }
+{
+    plain_trace::marks_out(resend::plan(trace, batch, threshold, out))
 }

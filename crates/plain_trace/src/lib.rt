@@ -75,14 +75,14 @@ const NONE: Refusal = Refusal {
     place: 0,
 };
 
-const NO_FIGURES: Figures = Figures {
+pub const NO_FIGURES: Figures = Figures {
     burst_rate: 0,
     gap_rate: 0,
     burst_mean: 0,
     burst_variance: 0,
 };
 
-const NO_TALLY: TallyNumbers = TallyNumbers {
+pub const NO_TALLY: TallyNumbers = TallyNumbers {
     gmin: 0,
     spacing: 0,
     event: 0,
