@@ -153,6 +153,85 @@ nuvaskoe_written nuvaskoe_packet_list(const uint8_t *packet, size_t packet_len, 
 /* One block by itself, from its type, type-specific byte and body: never refused, never 4. */
 nuvaskoe_block nuvaskoe_block_read(uint8_t type, uint8_t specific, const uint8_t *body, size_t body_len);
 
+/*
+ * The five kinds of block as they are written. Every number that a field can hold is good,
+ * unless the field's comment names a range: those outside it are refused with 16.
+ */
+
+/* Type 14: the span that the figures of a source were measured over. */
+typedef struct nuvaskoe_measurement {
+    uint32_t source;
+    uint16_t first;          /* first sequence number */
+    uint32_t extended_first; /* extended first sequence number of the interval */
+    uint32_t extended_last;  /* extended last sequence number */
+    uint32_t interval;       /* interval duration */
+    uint32_t seconds;        /* cumulative duration, its seconds */
+    uint32_t fraction;       /* cumulative duration, its fraction */
+} nuvaskoe_measurement;
+
+/* Type 17: bursts and gaps of lost packets. */
+typedef struct nuvaskoe_loss_summary {
+    uint8_t flag; /* interval flag, 1 to 3 */
+    uint32_t source;
+    uint16_t burst_rate;     /* 0 to 32,768, or 65,535 for unavailable */
+    uint16_t gap_rate;       /* the same */
+    uint16_t burst_mean;     /* 65,534 for over range, 65,535 for unavailable */
+    uint16_t burst_variance; /* the same */
+} nuvaskoe_loss_summary;
+
+/* Type 18: bursts and gaps of discarded packets. */
+typedef struct nuvaskoe_discard_summary {
+    uint8_t flag; /* interval flag, 1 to 3 */
+    uint32_t source;
+    uint16_t burst_rate; /* 0 to 32,768, or 65,535 for unavailable */
+    uint16_t gap_rate;   /* the same */
+} nuvaskoe_discard_summary;
+
+/* Type 240: effective loss. */
+typedef struct nuvaskoe_effective_loss {
+    uint32_t source;
+    uint16_t index; /* effective loss index; 65,535 is full loss */
+} nuvaskoe_effective_loss;
+
+/* Type 241: counts of transport stream errors. It covers end minus begin packets, modulo 65,536. */
+typedef struct nuvaskoe_stream_counts {
+    uint32_t source;
+    uint16_t begin;   /* first sequence number */
+    uint16_t end;     /* sequence number after the last */
+    uint32_t streams; /* number of transport streams */
+    uint32_t sync_losses;
+    uint32_t sync_byte_errors;
+    uint32_t continuity_errors;
+    uint32_t transport_errors;
+    uint32_t pcr_errors;
+    uint32_t pcr_repetition_errors;
+    uint32_t pcr_discontinuity_errors;
+    uint32_t pts_errors;
+} nuvaskoe_stream_counts;
+
+/*
+ * Writes a packet with this sender and no blocks into the first 8 bytes of out; the bytes
+ * after them keep what they held. A good write answers size 8. Refusal: 8.
+ */
+nuvaskoe_written nuvaskoe_packet_new(uint32_t sender, uint8_t *out, size_t out_len);
+
+/*
+ * Adds a block to the packet at the front of out, which may be longer than the packet. A
+ * good add answers the packet's new size in bytes. Only the length field and the new bytes
+ * change, reserved bits are written zero, and the bytes after the packet keep what they held.
+ * Refusals, in this order: 1 to 6 of the packet at the front, where 4 is a length field that
+ * asks for more than out or for under 8 bytes; then
+ *   16  a block 17 or 18 with a flag or rate outside its range
+ *   17  the length field would pass 65,535
+ *    8  out has no room for the block
+ * An added 17 or 18 reads as NUVASKOE_UNMEASURED until a block 14 for its source is there.
+ */
+nuvaskoe_written nuvaskoe_packet_add_measurement(uint8_t *out, size_t out_len, nuvaskoe_measurement block);
+nuvaskoe_written nuvaskoe_packet_add_loss(uint8_t *out, size_t out_len, nuvaskoe_loss_summary block);
+nuvaskoe_written nuvaskoe_packet_add_discard(uint8_t *out, size_t out_len, nuvaskoe_discard_summary block);
+nuvaskoe_written nuvaskoe_packet_add_effective(uint8_t *out, size_t out_len, nuvaskoe_effective_loss block);
+nuvaskoe_written nuvaskoe_packet_add_streams(uint8_t *out, size_t out_len, nuvaskoe_stream_counts block);
+
 #ifdef __cplusplus
 }
 #endif

@@ -3,6 +3,8 @@
 use crate::boundary;
 
 /// A block of one of the five kinds. Rates are 0 to 32,768, or 65,535 for unavailable.
+/// A block that was read keeps to the ranges named here; one to be written may not, and
+/// [`crate::packet::add`] refuses it.
 #[derive(Debug, Clone, Copy, PartialEq, Eq)]
 pub enum Block {
     /// Type 14.
@@ -84,7 +86,8 @@ pub struct TransportStream {
     pub begin: u16,
     /// Sequence number after the last.
     pub end: u16,
-    /// Packets covered: end minus begin modulo 65,536.
+    /// Packets covered: end minus begin modulo 65,536. It has no bytes of its own, so
+    /// [`crate::packet::add`] does not look at it.
     pub packets: u16,
     /// Number of transport streams.
     pub streams: u32,
@@ -255,6 +258,65 @@ impl TransportStream {
             packets: narrow(*packets),
             streams: *streams,
             counts: *counts,
+        }
+    }
+}
+
+impl From<&Measurement> for boundary::Measurement {
+    fn from(block: &Measurement) -> Self {
+        Self {
+            source: block.source,
+            first: block.first,
+            extended_first: block.extended_first,
+            extended_last: block.extended_last,
+            interval: block.interval,
+            seconds: block.seconds,
+            fraction: block.fraction,
+        }
+    }
+}
+
+impl From<&Loss> for boundary::LossSummary {
+    fn from(block: &Loss) -> Self {
+        Self {
+            flag: block.flag,
+            source: block.source,
+            burst_rate: block.burst_rate,
+            gap_rate: block.gap_rate,
+            burst_mean: block.mean,
+            burst_variance: block.variance,
+        }
+    }
+}
+
+impl From<&Discard> for boundary::DiscardSummary {
+    fn from(block: &Discard) -> Self {
+        Self {
+            flag: block.flag,
+            source: block.source,
+            burst_rate: block.burst_rate,
+            gap_rate: block.gap_rate,
+        }
+    }
+}
+
+impl From<&EffectiveLoss> for boundary::EffectiveLoss {
+    fn from(block: &EffectiveLoss) -> Self {
+        Self {
+            source: block.source,
+            index: block.index,
+        }
+    }
+}
+
+impl From<&TransportStream> for boundary::StreamCounts {
+    fn from(block: &TransportStream) -> Self {
+        Self {
+            source: block.source,
+            begin: block.begin,
+            end: block.end,
+            streams: block.streams,
+            counts: block.counts,
         }
     }
 }

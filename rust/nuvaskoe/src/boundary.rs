@@ -61,6 +61,51 @@ pub(crate) struct Part {
     pub(crate) length: usize,
 }
 
+#[repr(C)]
+pub(crate) struct Measurement {
+    pub(crate) source: u32,
+    pub(crate) first: u16,
+    pub(crate) extended_first: u32,
+    pub(crate) extended_last: u32,
+    pub(crate) interval: u32,
+    pub(crate) seconds: u32,
+    pub(crate) fraction: u32,
+}
+
+#[repr(C)]
+pub(crate) struct LossSummary {
+    pub(crate) flag: u8,
+    pub(crate) source: u32,
+    pub(crate) burst_rate: u16,
+    pub(crate) gap_rate: u16,
+    pub(crate) burst_mean: u16,
+    pub(crate) burst_variance: u16,
+}
+
+#[repr(C)]
+pub(crate) struct DiscardSummary {
+    pub(crate) flag: u8,
+    pub(crate) source: u32,
+    pub(crate) burst_rate: u16,
+    pub(crate) gap_rate: u16,
+}
+
+#[repr(C)]
+pub(crate) struct EffectiveLoss {
+    pub(crate) source: u32,
+    pub(crate) index: u16,
+}
+
+#[repr(C)]
+pub(crate) struct StreamCounts {
+    pub(crate) source: u32,
+    pub(crate) begin: u16,
+    pub(crate) end: u16,
+    pub(crate) streams: u32,
+    /// Eight fields in C, one after the other: an array of them has the same layout.
+    pub(crate) counts: [u32; 8],
+}
+
 extern "C" {
     pub(crate) fn nuvaskoe_card_read(card: *const u8, card_len: usize) -> Card;
     pub(crate) fn nuvaskoe_card_write(settings: Settings, out: *mut u8, out_len: usize) -> Written;
@@ -83,6 +128,32 @@ extern "C" {
         body: *const u8,
         body_len: usize,
     ) -> Block;
+    pub(crate) fn nuvaskoe_packet_new(sender: u32, out: *mut u8, out_len: usize) -> Written;
+    pub(crate) fn nuvaskoe_packet_add_measurement(
+        out: *mut u8,
+        out_len: usize,
+        block: Measurement,
+    ) -> Written;
+    pub(crate) fn nuvaskoe_packet_add_loss(
+        out: *mut u8,
+        out_len: usize,
+        block: LossSummary,
+    ) -> Written;
+    pub(crate) fn nuvaskoe_packet_add_discard(
+        out: *mut u8,
+        out_len: usize,
+        block: DiscardSummary,
+    ) -> Written;
+    pub(crate) fn nuvaskoe_packet_add_effective(
+        out: *mut u8,
+        out_len: usize,
+        block: EffectiveLoss,
+    ) -> Written;
+    pub(crate) fn nuvaskoe_packet_add_streams(
+        out: *mut u8,
+        out_len: usize,
+        block: StreamCounts,
+    ) -> Written;
 }
 
 // The layout that C gives these structs where size_t is 4 or 8 bytes wide.
@@ -108,4 +179,26 @@ const _: () = {
     assert!(offset_of!(Block, fields) == 2 * WORD + 8);
     assert!(size_of::<Part>() == 2 * WORD && align_of::<Part>() == WORD);
     assert!(offset_of!(Part, offset) == 0 && offset_of!(Part, length) == WORD);
+    // The blocks to write hold no size_t: their layout is the same on either.
+    assert!(size_of::<Measurement>() == 28 && align_of::<Measurement>() == 4);
+    assert!(offset_of!(Measurement, source) == 0 && offset_of!(Measurement, first) == 4);
+    assert!(offset_of!(Measurement, extended_first) == 8);
+    assert!(offset_of!(Measurement, extended_last) == 12);
+    assert!(offset_of!(Measurement, interval) == 16);
+    assert!(offset_of!(Measurement, seconds) == 20 && offset_of!(Measurement, fraction) == 24);
+    assert!(size_of::<LossSummary>() == 16 && align_of::<LossSummary>() == 4);
+    assert!(offset_of!(LossSummary, flag) == 0 && offset_of!(LossSummary, source) == 4);
+    assert!(offset_of!(LossSummary, burst_rate) == 8 && offset_of!(LossSummary, gap_rate) == 10);
+    assert!(offset_of!(LossSummary, burst_mean) == 12);
+    assert!(offset_of!(LossSummary, burst_variance) == 14);
+    assert!(size_of::<DiscardSummary>() == 12 && align_of::<DiscardSummary>() == 4);
+    assert!(offset_of!(DiscardSummary, flag) == 0 && offset_of!(DiscardSummary, source) == 4);
+    assert!(offset_of!(DiscardSummary, burst_rate) == 8);
+    assert!(offset_of!(DiscardSummary, gap_rate) == 10);
+    assert!(size_of::<EffectiveLoss>() == 8 && align_of::<EffectiveLoss>() == 4);
+    assert!(offset_of!(EffectiveLoss, source) == 0 && offset_of!(EffectiveLoss, index) == 4);
+    assert!(size_of::<StreamCounts>() == 44 && align_of::<StreamCounts>() == 4);
+    assert!(offset_of!(StreamCounts, source) == 0 && offset_of!(StreamCounts, begin) == 4);
+    assert!(offset_of!(StreamCounts, end) == 6 && offset_of!(StreamCounts, streams) == 8);
+    assert!(offset_of!(StreamCounts, counts) == 12);
 };

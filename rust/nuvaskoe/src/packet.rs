@@ -1,12 +1,15 @@
-//! Report packets: one RTCP XR packet (RFC 3611) as a slice of bytes.
+//! Report packets: one RTCP XR packet (RFC 3611) as a slice of bytes, read and written.
 //!
-//! Every call judges the whole packet first. Refusals, in this order: 1, 2, 3, 4, 5, 6
-//! (placed at the block that runs past the end), then what the call itself names.
+//! Every call that takes a packet judges all of it first. Refusals, in this order: 1, 2, 3,
+//! 4, 5, 6 (placed at the block that runs past the end), then what the call itself names.
 
 // The debug assertions here are what the header says of refused answers and no answer in
 // Rust shows.
 
-use crate::{block::Reading, boundary, Refusal};
+use crate::{
+    block::{Block, Reading},
+    boundary, Refusal,
+};
 
 /// What a packet says of itself.
 #[derive(Debug, Clone, Copy, PartialEq, Eq)]
@@ -69,6 +72,66 @@ pub fn list(packet: &[u8], out: &mut [u32]) -> Result<usize, Refusal> {
     let answer = unsafe {
         boundary::nuvaskoe_packet_list(packet.as_ptr(), packet.len(), out.as_mut_ptr(), out.len())
     };
+    written(answer)
+}
+
+/// Writes a packet with this sender and no blocks into the first 8 bytes of `out` and
+/// answers 8; the bytes after them keep what they held.
+///
+/// Refusal: 8.
+pub fn new(sender: u32, out: &mut [u8]) -> Result<usize, Refusal> {
+    // SAFETY: a slice's pointer is never null, and `out` lends all its length for writing.
+    let answer = unsafe { boundary::nuvaskoe_packet_new(sender, out.as_mut_ptr(), out.len()) };
+    written(answer)
+}
+
+/// Adds a block to the packet at the front of `out`, which may be longer than the packet,
+/// and answers the packet's new size in bytes. Only the length field and the new bytes
+/// change; reserved bits are written zero.
+///
+/// Refusal 4 is here a length field that asks for more than `out` or for under 8 bytes.
+/// Further refusals, in this order: 16, a block 17 or 18 with a flag or rate outside its
+/// range; 17, the length field would pass 65,535; 8, no room for the block.
+///
+/// ```
+/// use nuvaskoe::block::{Block, EffectiveLoss, Verdict};
+///
+/// let mut buffer = [0; 64];
+/// nuvaskoe::packet::new(1, &mut buffer)?;
+/// let block = Block::EffectiveLoss(EffectiveLoss { source: 2, index: 37_448 });
+/// let size = nuvaskoe::packet::add(&mut buffer, &block)?;
+/// assert_eq!(size, 20);
+/// let reading = nuvaskoe::packet::block(&buffer[..size], 0)?;
+/// assert_eq!(reading.verdict, Verdict::Typed(block));
+/// # Ok::<(), nuvaskoe::Refusal>(())
+/// ```
+///
+/// A block 17 or 18 reads as unmeasured until a block 14 for its source is there.
+pub fn add(out: &mut [u8], block: &Block) -> Result<usize, Refusal> {
+    let (start, length) = (out.as_mut_ptr(), out.len());
+    // SAFETY: a slice's pointer is never null, and `out` lends all its length for writing.
+    let answer = unsafe {
+        match block {
+            Block::Measurement(block) => {
+                boundary::nuvaskoe_packet_add_measurement(start, length, block.into())
+            }
+            Block::Loss(block) => boundary::nuvaskoe_packet_add_loss(start, length, block.into()),
+            Block::Discard(block) => {
+                boundary::nuvaskoe_packet_add_discard(start, length, block.into())
+            }
+            Block::EffectiveLoss(block) => {
+                boundary::nuvaskoe_packet_add_effective(start, length, block.into())
+            }
+            Block::TransportStream(block) => {
+                boundary::nuvaskoe_packet_add_streams(start, length, block.into())
+            }
+        }
+    };
+    written(answer)
+}
+
+/// The size in an answer about a lent buffer.
+fn written(answer: boundary::Written) -> Result<usize, Refusal> {
     debug_assert!(answer.refusal.number == 0 || answer.size == 0);
     answer.refusal.unless_refused(answer.size)
 }

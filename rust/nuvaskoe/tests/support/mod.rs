@@ -2,6 +2,7 @@
 //! the environment may set.
 #![allow(dead_code)] // Each test file is its own crate and uses its own part.
 
+pub mod adding;
 pub mod compare;
 pub mod packets;
 

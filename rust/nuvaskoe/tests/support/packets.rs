@@ -26,10 +26,10 @@ pub fn listed_words(block_type: u8) -> Option<usize> {
 const UNLISTED: [u8; 12] = [0, 1, 13, 15, 16, 19, 113, 142, 207, 239, 242, 255];
 
 /// Sources that share halves and bytes, so that a part of one is not taken for all of it.
-const SOURCES: [u32; 6] = [0, 1, 0x0100_0000, 0x0001_0001, 0x0001_0100, 0xFFFF_FFFF];
+pub const SOURCES: [u32; 6] = [0, 1, 0x0100_0000, 0x0001_0001, 0x0001_0100, 0xFFFF_FFFF];
 
 /// Rates on both sides of their limits, good ones more often.
-const RATES: [u16; 10] = [
+pub const RATES: [u16; 10] = [
     0, 1, 256, 16_384, 32_767, 32_768, 65_535, 65_535, 32_769, 65_534,
 ];
 

@@ -1,29 +1,19 @@
-//! Times the library's packet calls beside the independent ones, on the same packets and
-//! in one run:
-//!
-//! ```text
-//! cargo run --release --offline --example bench
-//! ```
-//!
-//! Each figure is the least of several rounds, in nanoseconds a call. `read` asks for the
-//! sender and the number of blocks, `all` for every block's offset and verdict, `last`
-//! for the last block by its index.
+//! Packets read.
 
-#[path = "../tests/support/mod.rs"]
-mod support;
-
-use std::{
-    hint::black_box,
-    time::{Duration, Instant},
+use super::{
+    print, race,
+    support::{
+        compare::compare,
+        packets::{all_kinds, block, listed, packet, P12},
+    },
 };
-use support::{
-    compare::compare,
-    packets::{all_kinds, block, listed, packet, P12},
-};
+use std::hint::black_box;
 
-const ROUNDS: usize = 15;
-/// A round repeats its call until it takes at least this long.
-const ROUND: Duration = Duration::from_millis(4);
+pub fn time() {
+    for case in &cases() {
+        time_case(case);
+    }
+}
 
 struct Case {
     name: &'static str,
@@ -102,70 +92,24 @@ fn walk(packet: &[u8], out: &mut Vec<(u32, u32)>) {
     .expect("a good packet");
 }
 
-/// Times two calls in turns: the least time of each, in nanoseconds.
-fn race<A, B>(mut ours: impl FnMut() -> A, mut theirs: impl FnMut() -> B) -> (f64, f64) {
-    let (our_repeats, their_repeats) = (repeats(&mut ours), repeats(&mut theirs));
-    let mut least = (f64::INFINITY, f64::INFINITY);
-    for _ in 0..ROUNDS {
-        least.0 = least.0.min(nanoseconds(&mut ours, our_repeats));
-        least.1 = least.1.min(nanoseconds(&mut theirs, their_repeats));
-    }
-    least
-}
-
-fn repeats<T>(call: &mut impl FnMut() -> T) -> u32 {
-    let mut repeats = 1;
-    while nanoseconds(call, repeats) * f64::from(repeats) < ROUND.as_nanos() as f64 {
-        repeats *= 2;
-    }
-    repeats
-}
-
-fn nanoseconds<T>(call: &mut impl FnMut() -> T, repeats: u32) -> f64 {
-    let start = Instant::now();
-    for _ in 0..repeats {
-        black_box(call());
-    }
-    start.elapsed().as_nanos() as f64 / f64::from(repeats)
-}
-
-fn print(case: &Case, call: &str, (ours, independent): (f64, f64)) {
-    println!(
-        "{:<29} {:>7} {call:<4} {ours:>12.1} {independent:>12.1} {:>7.2}",
-        case.name,
-        case.packet.len(),
-        ours / independent
-    );
-}
-
-fn time(case: &Case) {
+fn time_case(case: &Case) {
     let packet = &case.packet[..];
     let count = check(packet);
     let read = race(
         || nuvaskoe::packet::read(black_box(packet)),
         || independent::packet::read(black_box(packet)),
     );
-    print(case, "read", read);
+    print(case.name, packet.len(), "read", read);
     let (mut our_list, mut their_list) = (vec![0; 2 * count], Vec::with_capacity(count));
     let all = race(
         || nuvaskoe::packet::list(black_box(packet), black_box(&mut our_list)),
         || walk(black_box(packet), black_box(&mut their_list)),
     );
-    print(case, "all", all);
+    print(case.name, packet.len(), "all", all);
     let last = count - 1;
     let last = race(
         || nuvaskoe::packet::block(black_box(packet), black_box(last)),
         || independent::packet::block(black_box(packet), black_box(last)),
     );
-    print(case, "last", last);
-}
-
-fn main() {
-    println!(
-        "{:<29} {:>7} {:<4} {:>12} {:>12} {:>7}",
-        "packet", "bytes", "call", "ours ns", "indep. ns", "ratio"
-    );
-    for case in &cases() {
-        time(case);
-    }
+    print(case.name, packet.len(), "last", last);
 }

@@ -1,0 +1,69 @@
+//! Times the library's packet calls beside the independent ones, on the same packets and
+//! in one run:
+//!
+//! ```text
+//! cargo run --release --offline --example bench
+//! ```
+//!
+//! Each figure is the least of several rounds, in nanoseconds a call. `read` asks for the
+//! sender and the number of blocks, `all` for every block's offset and verdict, `last`
+//! for the last block by its index. `add` adds one block to the packet named, and `make`
+//! makes the packet named from a new one, by adding one block after the other.
+
+#[path = "../../tests/support/mod.rs"]
+mod support;
+
+mod reading;
+mod writing;
+
+use std::{
+    hint::black_box,
+    time::{Duration, Instant},
+};
+
+const ROUNDS: usize = 15;
+/// A round repeats its call until it takes at least this long.
+const ROUND: Duration = Duration::from_millis(4);
+
+/// Times two calls in turns: the least time of each, in nanoseconds.
+fn race<A, B>(mut ours: impl FnMut() -> A, mut theirs: impl FnMut() -> B) -> (f64, f64) {
+    let (our_repeats, their_repeats) = (repeats(&mut ours), repeats(&mut theirs));
+    let mut least = (f64::INFINITY, f64::INFINITY);
+    for _ in 0..ROUNDS {
+        least.0 = least.0.min(nanoseconds(&mut ours, our_repeats));
+        least.1 = least.1.min(nanoseconds(&mut theirs, their_repeats));
+    }
+    least
+}
+
+fn repeats<T>(call: &mut impl FnMut() -> T) -> u32 {
+    let mut repeats = 1;
+    while nanoseconds(call, repeats) * f64::from(repeats) < ROUND.as_nanos() as f64 {
+        repeats *= 2;
+    }
+    repeats
+}
+
+fn nanoseconds<T>(call: &mut impl FnMut() -> T, repeats: u32) -> f64 {
+    let start = Instant::now();
+    for _ in 0..repeats {
+        black_box(call());
+    }
+    start.elapsed().as_nanos() as f64 / f64::from(repeats)
+}
+
+fn print(packet: &str, bytes: usize, call: &str, (ours, independent): (f64, f64)) {
+    println!(
+        "{packet:<29} {bytes:>7} {call:<4} {ours:>12.1} {independent:>12.1} {:>7.2}",
+        ours / independent
+    );
+}
+
+fn main() {
+    println!(
+        "{:<29} {:>7} {:<4} {:>12} {:>12} {:>7}",
+        "packet", "bytes", "call", "ours ns", "indep. ns", "ratio"
+    );
+    reading::time();
+    writing::time();
+}
