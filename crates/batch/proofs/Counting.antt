@@ -1,16 +1,18 @@
 -- Counts of positions that pass a test, beside the first of them; and the laws of effective loss. Assumes nothing.
-use Prim.Native.Nat.{ℕ, zero, suc, _+_, _-_, _<_, _≤_}
+use Prim.Native.Nat.{ℕ, zero, suc, _+_, _-_, _*_, _/_, _^_, _<_, _≤_}
 use mathlib.Core.Path.{_≡_, refl, sym, ap, _∙_}
 use mathlib.Core.Bool.{Bool, false}
 use native.Mathlib.Omega.{arith}
 use native.Mathlib.Nat.{zero-add, div-le-of-le-mul, mul-le-mul-right}
 use borrow.Author.Tests.{ltb-true, ltb-false, le-ltb}
+use mir.Syntax.{w16}
+use mir.Val.{Fits}
 use Rattle.trace.specs.Sum.{sum, bit, count}
 use Rattle.trace.proofs.Sums.{sum-step, sum-cut, count-most}
 use Rattle.batch.specs.declared.First.{First}
 use Rattle.batch.specs.declared.First.the-variants.{At, None}
 use Rattle.batch.specs.Batches.{batches, lossesIn, over, overCount, firstFrom, firstOver}
-use Rattle.batch.specs.Loss.{fullLoss, indexOf, lossOf}
+use Rattle.batch.specs.Loss.{fullLoss, lossOf}
 use Rattle.batch.specs.Laws.{FirstMeans, First-means, None-counted, None-named, Index-most, Threshold-high}
 use Rattle.batch.proofs.Searching.{Meant, meant}
 
@@ -86,12 +88,16 @@ none-named lost e b t h = go (firstFrom (over lost b t) (batches e b) 0) (meant 
     go (At k) m = let some = count-some (over lost b t) (batches e b) k m in absurd (omega arith)
     go None m = refl
 
-pub index-le : (k n : ℕ) → k ≤ n → indexOf k n ≤ fullLoss
-index-le k n h = div-le-of-le-mul n (mul-le-mul-right fullLoss h)
+-- a part of at most the whole, as a fraction of m
+part-le : (k n m : ℕ) → k ≤ n → k * m / n ≤ m
+part-le k n m h = div-le-of-le-mul n (mul-le-mul-right m h)
+
+pub index-fits : (k n m : ℕ) → k ≤ n → m < 2 ^ 16 → Fits w16 (k * m / n)
+index-fits k n m h w = let le = part-le k n m h in omega arith
 
 pub index-most : Index-most
 unfolding lossOf
-index-most lost e b t = index-le (overCount lost e b t) (batches e b) (over-most lost e b t)
+index-most lost e b t = part-le (overCount lost e b t) (batches e b) fullLoss (over-most lost e b t)
 
 pub threshold-high : Threshold-high
 unfolding overCount

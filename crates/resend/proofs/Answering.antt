@@ -1,6 +1,6 @@
 -- The cases of planning, in the order of the code, and demand 3 as the caller's promise. Assumes nothing.
 use Prim.Native.Nat.{ℕ, _<_, _≤_}
-use mathlib.Core.Path.{_≡_, refl, sym, ap}
+use mathlib.Core.Path.{_≡_, refl, sym, ap, _∙_}
 use mathlib.Core.List.{List, _++_}
 use borrow.Author.Tests.{le-leb, lt-leb}
 use lib.ListN.{length, drop}
@@ -17,7 +17,7 @@ use Rattle.resend.specs.declared.Planned.{Planned}
 use Rattle.resend.specs.declared.Planned.the-variants.{Marks, Refused}
 use Rattle.resend.specs.Plans.{marks, Best}
 use Rattle.resend.specs.Answer.{planFor, planAnswer, bufferAfter}
-use Rattle.resend.specs.Laws.{front, Demand3, Plan-best}
+use Rattle.resend.specs.Laws.{front, Demand3, Plan-best, Refused-unchanged}
 use Rattle.resend.proofs.Greedy.{plan-length}
 use Rattle.resend.proofs.Best.{ours-best}
 
@@ -56,10 +56,14 @@ module _ (event : Event) (s : List ℕ) (b t : ℕ) (buffer : List ℕ) where
     demanded : Best (countedIn event s) (length s) b t (planFor event s b t) → Demand3 event s b t buffer
     demanded best =
         record {
-          answer = rw front-is (sym (planned _ _ j l refl refl .0));
+          answer = sym (planned _ _ j l refl refl .0) ∙ ap (λ (p : List ℕ). Marks (marks p)) (sym front-is);
           best = rw front-is best;
           further = rw after-is (drop-at (planFor event s b t) (drop (length s) buffer) (length s) for-length);
         }
+
+pub refused-unchanged : Refused-unchanged
+unfolding bufferAfter
+refused-unchanged event s b t buffer r h = rw h
 
 pub plan-best : Plan-best
 unfolding planFor

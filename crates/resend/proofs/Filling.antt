@@ -8,13 +8,13 @@ use native.Mathlib.Omega.{arith}
 use native.Mathlib.Decide.{decLe}
 use native.Mathlib.Numerals.{add-one}
 use borrow.Author.Tests.{le-leb, lt-leb}
-use lib.Dec.{leb, eqb}
+use lib.Dec.{eqb}
 use lib.ListN.{length, getD, set, drop, length-append, length-drop, List·getD-append}
 use lib.Seq.{drop-cons, set-at, append-snoc}
 use Rattle.trace.specs.Sum.{bit}
 use Rattle.trace.proofs.Sums.{sum-none, sum-same, count-most}
 use Rattle.resend.specs.Plans.{marked, marks, left}
-use Rattle.resend.specs.Greedy.{windowAt, recent, leaving, planOf}
+use Rattle.resend.specs.Greedy.{windowAt, recent, leaving, toMark, planOf}
 use Rattle.resend.proofs.Ahead.{total, total-step, total-window}
 use Rattle.resend.proofs.Windows.{bits}
 use Rattle.resend.proofs.Greedy.{plan-length, plan-prefix, plan-at, recent-same}
@@ -118,7 +118,7 @@ module _ (lost : ℕ → Bool) (b t e : ℕ) (old : List ℕ) where
     slid-small = omega (arith, slid, count-most (left lost (planOf lost b t i)) (windowAt b i) (i - windowAt b i))
 
     -- packet i enters, marked or not
-    module _ (l : i < e) (mark : ℕ) (is : mark ≡ bit (lost i && leb t (recent lost b (planOf lost b t i) i))) where
+    module _ (l : i < e) (mark : ℕ) (is : mark ≡ bit (toMark lost b t (planOf lost b t i) i)) where
       next-plan : planOf lost b t (suc i) ≡ planOf lost b t i ++ (mark ∷ [])
       unfolding planOf
       next-plan = rw is
@@ -148,7 +148,7 @@ module _ (lost : ℕ → Bool) (b t e : ℕ) (old : List ℕ) where
           before = sum-same _ _ 0 i (λ j h. rw (plan-prefix lost b t i (suc i) (0 + j) (omega arith) (omega arith)))
 
           here : bits (marked (planOf lost b t (suc i))) i ≡ mark
-          here = rw (at-i, is) (mark-bit (lost i && leb t (recent lost b (planOf lost b t i) i)))
+          here = rw (at-i, is) (mark-bit (toMark lost b t (planOf lost b t i) i))
 
           counts-on : so-far′ ≡ marks (planOf lost b t (suc i))
           counts-on =

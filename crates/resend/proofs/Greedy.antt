@@ -12,14 +12,10 @@ use lib.Seq.{getD-at}
 use Rattle.trace.specs.Sum.{bit}
 use Rattle.trace.proofs.Sums.{sum-same}
 use Rattle.resend.specs.Plans.{left}
-use Rattle.resend.specs.Greedy.{windowAt, recent, planOf}
+use Rattle.resend.specs.Greedy.{windowAt, recent, toMark, planOf}
 use Rattle.resend.proofs.Ahead.{Choice, fine, kept, sent}
 
 module _ (lost : ℕ → Bool) (b t : ℕ) where
-  -- whether the rule marks packet i
-  abbrev marks-at : ℕ → Bool
-  marks-at i = lost i && leb t (recent lost b (planOf lost b t i) i)
-
   pub plan-length : (n : ℕ) → length (planOf lost b t n) ≡ n
   unfolding planOf
   plan-length zero = refl
@@ -36,10 +32,10 @@ module _ (lost : ℕ → Bool) (b t : ℕ) where
   pub plan-prefix : (n m i : ℕ) → n ≤ m → i < n → getD (planOf lost b t m) i 0 ≡ getD (planOf lost b t n) i 0
   plan-prefix n m i h l = let e : m ≡ n + (m - n) = omega arith in rw e (longer n i (m - n) l)
 
-  pub plan-at : (n i : ℕ) → i < n → getD (planOf lost b t n) i 0 ≡ bit (marks-at i)
+  pub plan-at : (n i : ℕ) → i < n → getD (planOf lost b t n) i 0 ≡ bit (toMark lost b t (planOf lost b t i) i)
   unfolding planOf
   plan-at n i h =
-      plan-prefix (suc i) n i h (omega arith) ∙ getD-at (planOf lost b t i) (bit (marks-at i)) [] 0 i (plan-length i)
+      plan-prefix (suc i) n i h (omega arith) ∙ getD-at (planOf lost b t i) (bit (toMark lost b t (planOf lost b t i) i)) [] 0 i (plan-length i)
 
   -- what the rule counts before packet i, over the whole plan
   pub recent-same : (n i : ℕ) → i ≤ n → recent lost b (planOf lost b t n) i ≡ recent lost b (planOf lost b t i) i

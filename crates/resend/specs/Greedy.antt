@@ -19,7 +19,11 @@ recent lost b p i = count (left lost p) (windowAt b i) (i - windowAt b i)
 unfoldable pub leaving : (ℕ → Bool) → ℕ → List ℕ → ℕ → ℕ
 leaving lost b p i = cond (leb b i) (bit (left lost p (i - b))) 0
 
+-- the rule for packet i, after the plan p of the packets before it
+abbrev pub toMark : (ℕ → Bool) → ℕ → ℕ → List ℕ → ℕ → Bool
+toMark lost b t p i = lost i && leb t (recent lost b p i)
+
 -- the plan of the first n packets
 unfoldable pub planOf : (ℕ → Bool) → ℕ → ℕ → ℕ → List ℕ
 planOf lost b t zero = []
-planOf lost b t (suc i) = planOf lost b t i ++ (bit (lost i && leb t (recent lost b (planOf lost b t i) i)) ∷ [])
+planOf lost b t (suc i) = planOf lost b t i ++ (bit (toMark lost b t (planOf lost b t i) i) ∷ [])

@@ -5,6 +5,7 @@ use mathlib.Core.Path.{_≡_}
 use mathlib.Core.Bool.{Bool, true}
 use mathlib.Core.List.{List}
 use lib.ListN.{length, take, drop}
+use Rattle.refusal.specs.declared.Refusal.{Refusal}
 use Rattle.settings.specs.Ranges.{batchInRange}
 use Rattle.trace.specs.declared.Event.{Event}
 use Rattle.trace.specs.declared.Judged.the-variants.{Accepted}
@@ -13,7 +14,7 @@ use Rattle.batch.specs.declared.First.the-variants.{None}
 use Rattle.batch.specs.declared.LossRead.the-variants.{Loss}
 use Rattle.batch.specs.Batches.{batches}
 use Rattle.batch.specs.Loss.{lossAnswer}
-use Rattle.resend.specs.declared.Planned.the-variants.{Marks}
+use Rattle.resend.specs.declared.Planned.the-variants.{Marks, Refused}
 use Rattle.resend.specs.Plans.{marks, Best, resent}
 use Rattle.resend.specs.Answer.{planAnswer, bufferAfter}
 
@@ -33,6 +34,12 @@ Plan-best =
     (event : Event) (s : List ℕ) (b t : ℕ) (buffer : List ℕ) →
     judged s ≡ Accepted → batchInRange b t ≡ true → b ≤ length s → length s ≤ length buffer →
     Demand3 event s b t buffer
+
+-- A refused call changes no byte.
+abbrev pub Refused-unchanged : Type 0
+Refused-unchanged =
+    (event : Event) (s : List ℕ) (b t : ℕ) (buffer : List ℕ) (r : Refusal) →
+    planAnswer event s b t buffer ≡ Refused r → bufferAfter event s b t buffer ≡ buffer
 
 -- The best plan is one: any two are the same.
 abbrev pub Best-one : Type 0

@@ -4,7 +4,7 @@ use native.Mathlib.Omega.{arith}
 use lib.ListN.{length}
 use Rattle.batch.specs.Batches.{batches}
 use Rattle.batch.specs.Loss.{lossOf}
-use Rattle.batch.proofs.Counting.{over-most, index-le}
+use Rattle.batch.proofs.Counting.{over-most, index-fits}
 use borrow.Author.Needs.{needs}
 use Rattle.batch.proofs.loss_of.Statement.{statement}
 use Rattle.batch.proofs.loss_of.Tie as tie
@@ -31,7 +31,7 @@ div-t9 : tie.Need-div-t9
 div-t9 c = search needs
 
 cast-t10 : tie.Need-cast-t10
-cast-t10 c = omega (arith, index-le _ _ (most c))
+cast-t10 c = index-fits _ _ _ (omega (arith, most c)) (omega arith)
 
 returns : tie.Need-returns
 unfolding lossOf
