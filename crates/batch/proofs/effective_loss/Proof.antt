@@ -15,7 +15,9 @@ enum-told : tie.Need-enum-told
 enum-told c = search needs
 
 -- in the arm of an accepted trace
-judged : (c : tie.After-enum-told) → judgedFor (c .before .before .before .before .args .trace .now) (c .before .before .before .before .args .batch) (c .before .before .before .before .args .threshold) ≡ Accepted
+judged : (c : tie.After-enum-told) →
+    let a = c .before .before .before .before .args in
+    judgedFor (a .trace .now) (a .batch) (a .threshold) ≡ Accepted
 judged c = sym (c .before .before .judge .ensures) ∙ c .enum-told .given .1
 
 loss-of-requires : tie.Need-loss-of-requires

@@ -72,13 +72,16 @@ batches-less : tie.Need-batches-less Inv-loop μ-loop Inv-batches μ-batches
 batches-less c = omega arith
 
 batches-again : tie.Need-batches-again Inv-loop μ-loop Inv-batches μ-batches
-batches-again c = sought-more _ _ _ _ _ _ (c .before .before .before .batches .inv) _ (c .before .loop .inv .2) (omega arith) (part-under _ _ _ _ _ (c .before .loop .inv .0) _ (omega arith) (c .before .loop .inv .1))
+batches-again c =
+    sought-more _ _ _ _ _ _ (c .before .before .before .batches .inv) _ (c .before .loop .inv .2) (omega arith) (part-under _ _ _ _ _ (c .before .loop .inv .0) _ (omega arith) (c .before .loop .inv .1))
 
 returns : tie.Need-returns Inv-loop μ-loop Inv-batches μ-batches
 returns c = sought-all _ _ _ _ _ _ (c .before .batches .inv) (omega arith)
 
 returns-2 : tie.Need-returns-2 Inv-loop μ-loop Inv-batches μ-batches
-returns-2 c = sought-here _ _ _ _ _ _ (c .before .before .before .before .before .before .batches .inv) (omega arith) (part-over _ _ _ _ _ (more (c .before)) _ (omega arith))
+returns-2 c =
+    let inv = c .before .before .before .before .before .before .batches .inv in
+    sought-here _ _ _ _ _ _ (inv) (omega arith) (part-over _ _ _ _ _ (more (c .before)) _ (omega arith))
 
 pub first-over-spec : {M : Type 1} → statement M
 first-over-spec =

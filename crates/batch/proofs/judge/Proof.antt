@@ -26,16 +26,19 @@ enum-told : tie.Need-enum-told
 enum-told c = search needs
 
 returns-2 : tie.Need-returns-2
-returns-2 c = too-long _ _ _ (range (c .before .before .before .before)) (sym (c .before .before .before .judge .ensures) ∙ c .before .enum-told .given .1) (omega arith)
+returns-2 c =
+    too-long _ _ _ (range (c .before .before .before .before)) (sym (c .before .before .before .judge .ensures) ∙ c .before .enum-told .given .1) (omega arith)
 
 enum-known-r : tie.Need-enum-known-r
 enum-known-r c = search needs
 
 returns-3 : tie.Need-returns-3
-returns-3 c = accepted _ _ _ (range (c .before .before .before .before)) (sym (c .before .before .before .judge .ensures) ∙ c .before .enum-told .given .1) (omega arith)
+returns-3 c =
+    accepted _ _ _ (range (c .before .before .before .before)) (sym (c .before .before .before .judge .ensures) ∙ c .before .enum-told .given .1) (omega arith)
 
 returns-4 : tie.Need-returns-4
-returns-4 c = refused _ _ _ _ (range (c .before .before .before .before)) (sym (c .before .before .before .judge .ensures) ∙ c .before .r .given .1)
+returns-4 c =
+    refused _ _ _ _ (range (c .before .before .before .before)) (sym (c .before .before .before .judge .ensures) ∙ c .before .r .given .1)
 
 pub judge-spec : {M : Type 1} → statement M
 judge-spec =

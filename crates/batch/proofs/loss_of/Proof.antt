@@ -21,7 +21,9 @@ first-over-requires c κs = search needs
 over-count-requires : tie.Need-over-count-requires
 over-count-requires c κs = search needs
 
-most : (c : tie.After-over-count) → c .over-count .result ≤ batches (length (c .before .before .before .args .s .now)) (c .before .before .before .args .batch)
+most : (c : tie.After-over-count) →
+    let a = c .before .before .before .args in
+    c .over-count .result ≤ batches (length (a .s .now)) (a .batch)
 most c = rw (c .over-count .ensures) (over-most _ _ _ _)
 
 mul-t8 : tie.Need-mul-t8

@@ -30,7 +30,9 @@ few-marks : (c : tie.At-loop Inv-loop μ-loop) → c .loop .marks ≤ c .loop .i
 few-marks c = filling-small _ _ _ _ _ _ _ _ _ (c .loop .inv)
 
 -- in the other two arms the packet is counted
-is-counted : (c : tie.Else1 Inv-loop μ-loop) → countedIn (c .before .before .before .before .before .before .before .before .before .args .event) (c .before .before .before .before .before .before .before .before .before .args .s .now) (c .before .before .before .before .before .before .loop .i) ≡ true
+is-counted : (c : tie.Else1 Inv-loop μ-loop) →
+    let a = c .before .before .before .before .before .before .before .before .before .args in
+    countedIn (a .event) (a .s .now) (c .before .before .before .before .before .before .loop .i) ≡ true
 is-counted c = sym (c .before .counts .ensures) ∙ not-false (c .before .counts .result) (c .if1 .left)
 
 loop-holds : tie.Need-loop-holds Inv-loop μ-loop
@@ -40,7 +42,8 @@ add-i : tie.Need-add-i Inv-loop μ-loop
 add-i c = omega arith
 
 slide-requires : tie.Need-slide-requires Inv-loop μ-loop
-slide-requires c κs = (c .before .before .before .before .before .pre .0, omega arith, omega (arith, long (c .before .before), c .before .before .before .before .before .pre .1), slid-some _ _ _ _ _ _ _ _ _ (c .before .before .loop .inv))
+slide-requires c κs =
+    (c .before .before .before .before .before .pre .0, omega arith, omega (arith, long (c .before .before), c .before .before .before .before .before .pre .1), slid-some _ _ _ _ _ _ _ _ _ (c .before .before .loop .inv))
 
 shared-slice-read-counts : tie.Need-shared-slice-read-counts Inv-loop μ-loop
 shared-slice-read-counts c = omega arith
@@ -49,16 +52,20 @@ counts-requires : tie.Need-counts-requires Inv-loop μ-loop
 counts-requires c κs = search needs
 
 slice-write-out : tie.Need-slice-write-out Inv-loop μ-loop
-slice-write-out c = omega (arith, long (c .before .before .before .before .before .before), c .before .before .before .before .before .before .before .before .before .pre .1)
+slice-write-out c =
+    omega (arith, long (c .before .before .before .before .before .before), c .before .before .before .before .before .before .before .before .before .pre .1)
 
 loop-less : tie.Need-loop-less Inv-loop μ-loop
 loop-less c = omega arith
 
 loop-again : tie.Need-loop-again Inv-loop μ-loop
-loop-again c = enters-fine _ _ _ _ _ _ _ _ _ (c .before .before .before .before .before .before .loop .inv) (omega arith) _ (c .before .before .before .slide .ensures) (sym (c .before .counts .ensures) ∙ not-true (c .before .counts .result) (c .if1 .taken))
+loop-again c =
+    let inv = c .before .before .before .before .before .before .loop .inv in
+    enters-fine _ _ _ _ _ _ _ _ _ (inv) (omega arith) _ (c .before .before .before .slide .ensures) (sym (c .before .counts .ensures) ∙ not-true (c .before .counts .result) (c .if1 .taken))
 
 slice-write-out-2 : tie.Need-slice-write-out-2 Inv-loop μ-loop
-slice-write-out-2 c = omega (arith, long (c .before .before .before .before .before .before .before), c .before .before .before .before .before .before .before .before .before .before .pre .1)
+slice-write-out-2 c =
+    omega (arith, long (c .before .before .before .before .before .before .before), c .before .before .before .before .before .before .before .before .before .before .pre .1)
 
 add-left : tie.Need-add-left Inv-loop μ-loop
 add-left c = omega (arith, few-left (c .before .before .before .before))
@@ -67,10 +74,13 @@ loop-less-2 : tie.Need-loop-less-2 Inv-loop μ-loop
 loop-less-2 c = omega arith
 
 loop-again-2 : tie.Need-loop-again-2 Inv-loop μ-loop
-loop-again-2 c = enters-left _ _ _ _ _ _ _ _ _ (c .before .before .before .before .before .before .before .loop .inv) (omega arith) _ (c .before .before .before .before .slide .ensures) (is-counted (c .before)) (c .if2 .taken)
+loop-again-2 c =
+    let inv = c .before .before .before .before .before .before .before .loop .inv in
+    enters-left _ _ _ _ _ _ _ _ _ (inv) (omega arith) _ (c .before .before .before .before .slide .ensures) (is-counted (c .before)) (c .if2 .taken)
 
 slice-write-out-3 : tie.Need-slice-write-out-3 Inv-loop μ-loop
-slice-write-out-3 c = omega (arith, long (c .before .before .before .before .before .before .before), c .before .before .before .before .before .before .before .before .before .before .pre .1)
+slice-write-out-3 c =
+    omega (arith, long (c .before .before .before .before .before .before .before), c .before .before .before .before .before .before .before .before .before .before .pre .1)
 
 add-marks : tie.Need-add-marks Inv-loop μ-loop
 add-marks c = omega (arith, few-marks (c .before .before .before .before .before .before .before))
@@ -79,7 +89,9 @@ loop-less-3 : tie.Need-loop-less-3 Inv-loop μ-loop
 loop-less-3 c = omega arith
 
 loop-again-3 : tie.Need-loop-again-3 Inv-loop μ-loop
-loop-again-3 c = enters-marked _ _ _ _ _ _ _ _ _ (c .before .before .before .before .before .before .before .loop .inv) (omega arith) _ (c .before .before .before .before .slide .ensures) (is-counted (c .before)) (c .if2 .left)
+loop-again-3 c =
+    let inv = c .before .before .before .before .before .before .before .loop .inv in
+    enters-marked _ _ _ _ _ _ _ _ _ (inv) (omega arith) _ (c .before .before .before .before .slide .ensures) (is-counted (c .before)) (c .if2 .left)
 
 same-length : tie.Need-same-length Inv-loop μ-loop
 same-length c = long (c .before)

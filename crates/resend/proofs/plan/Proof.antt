@@ -15,10 +15,14 @@ enum-told : tie.Need-enum-told
 enum-told c = search needs
 
 -- in the arm of an accepted trace
-judged : (c : tie.After-enum-told) → judgedFor (c .before .before .before .before .before .args .trace .now) (c .before .before .before .before .before .args .batch) (c .before .before .before .before .before .args .threshold) ≡ Accepted
+judged : (c : tie.After-enum-told) →
+    let a = c .before .before .before .before .before .args in
+    judgedFor (a .trace .now) (a .batch) (a .threshold) ≡ Accepted
 judged c = sym (c .before .before .judge .ensures) ∙ c .enum-told .given .1
 
-fits : (c : tie.After-enum-told) → Fit (c .before .before .before .before .before .args .trace .now) (c .before .before .before .before .before .args .batch) (c .before .before .before .before .before .args .threshold)
+fits : (c : tie.After-enum-told) →
+    let a = c .before .before .before .before .before .args in
+    Fit (a .trace .now) (a .batch) (a .threshold)
 fits c = fit _ _ _ (judged c)
 
 returns : tie.Need-returns
@@ -34,7 +38,8 @@ same-length : tie.Need-same-length
 same-length c = search needs
 
 returns-2 : tie.Need-returns-2
-returns-2 c = planned _ _ _ _ _ _ _ (judged (c .before .before .before .before .before)) (c .before .before .before .before .if1 .left) (c .before .before .fill .ensures .0) (c .before .before .fill .ensures .1)
+returns-2 c =
+    planned _ _ _ _ _ _ _ (judged (c .before .before .before .before .before)) (c .before .before .before .before .if1 .left) (c .before .before .fill .ensures .0) (c .before .before .fill .ensures .1)
 
 returns-3 : tie.Need-returns-3
 returns-3 c = refused _ _ _ _ _ _ (sym (c .before .before .before .judge .ensures) ∙ c .before .r .given .1)

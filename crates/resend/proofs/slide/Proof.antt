@@ -21,7 +21,8 @@ shared-slice-read-if2 c = search needs
 
 -- where both tests pass, one leaves
 leaves : (c : tie.Then2) →
-    leaving (countedIn (c .before .before .before .before .before .before .before .args .event) (c .before .before .before .before .before .before .before .args .s .now)) (c .before .before .before .before .before .before .before .args .batch) (c .before .before .before .before .before .before .before .args .plan .now) (c .before .before .before .before .before .before .before .args .i) ≡ 1
+    let a = c .before .before .before .before .before .before .before .args in
+    leaving (countedIn (a .event) (a .s .now)) (a .batch) (a .plan .now) (a .i) ≡ 1
 leaves c = leaves-one _ _ _ _ (c .before .before .before .before .if1 .left) (rw (← c .before .before .counts .ensures) (c .if2 .taken))
 
 sub-result : tie.Need-sub-result
@@ -31,7 +32,8 @@ returns-2 : tie.Need-returns-2
 returns-2 c = slides-one _ _ _ _ _ (leaves c)
 
 returns-3 : tie.Need-returns-3
-returns-3 c = slides-none _ _ _ _ _ (leaves-other _ _ _ _ (c .before .before .before .before .if1 .left) (rw (← c .before .before .counts .ensures) (c .if2 .left)))
+returns-3 c =
+    slides-none _ _ _ _ _ (leaves-other _ _ _ _ (c .before .before .before .before .if1 .left) (rw (← c .before .before .counts .ensures) (c .if2 .left)))
 
 pub slide-spec : {M : Type 1} → statement M
 slide-spec =
