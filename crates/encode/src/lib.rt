@@ -1,11 +1,14 @@
 // A typed block as bytes: document 01, "Writing". Every kind is a row of 32-bit words, the rows of the diagrams
 // in crate block, so a block is made as words and one loop stores them. Reserved bits are zero.
 use block::Block;
+use block::DiscardSummary;
+use block::EffectiveLoss;
+use block::LossSummary;
 use block::Measurement;
 use block::StreamCounts;
 ghost use mathlib.Core.Path.{_≡_};
 ghost use Rattle.wire.specs.BigEndian.{placed};
-ghost use Rattle.block.specs.declared.Block.the-variants.{Measured, Streams};
+ghost use Rattle.block.specs.declared.Block.the-variants.{Measured, Loss, Discard, Effective, Streams};
 ghost use Rattle.encode.specs.Words.{halves, firstWord, wordsOf, filled, bytesOf, writable};
 
 // The words of a block: the first `count` of twelve, the most that a listed type has.
@@ -63,57 +66,9 @@ pub fn words(b: Block) -> BlockWords
 {
     match b {
         Block::Measured(m) => measurement_words(m),
-        Block::Loss(l) => BlockWords {
-            count: 4,
-            words: [
-                first_word(block::LOSS, l.flag % 4 * 64, LOSS_LENGTH),
-                l.source,
-                halves(l.burst_rate, l.gap_rate),
-                halves(l.burst_mean, l.burst_variance),
-                0,
-                0,
-                0,
-                0,
-                0,
-                0,
-                0,
-                0,
-            ],
-        },
-        Block::Discard(d) => BlockWords {
-            count: 3,
-            words: [
-                first_word(block::DISCARD, d.flag % 4 * 64, DISCARD_LENGTH),
-                d.source,
-                halves(d.burst_rate, d.gap_rate),
-                0,
-                0,
-                0,
-                0,
-                0,
-                0,
-                0,
-                0,
-                0,
-            ],
-        },
-        Block::Effective(e) => BlockWords {
-            count: 3,
-            words: [
-                first_word(block::EFFECTIVE, 0, EFFECTIVE_LENGTH),
-                e.source,
-                halves(e.index, 0),
-                0,
-                0,
-                0,
-                0,
-                0,
-                0,
-                0,
-                0,
-                0,
-            ],
-        },
+        Block::Loss(l) => loss_words(l),
+        Block::Discard(d) => discard_words(d),
+        Block::Effective(e) => effective_words(e),
         Block::Streams(t) => stream_words(t),
     }
 }
@@ -132,6 +87,72 @@ fn measurement_words(m: Measurement) -> BlockWords
             m.interval,
             m.seconds,
             m.fraction,
+            0,
+            0,
+            0,
+            0,
+        ],
+    }
+}
+
+fn loss_words(l: LossSummary) -> BlockWords
+    ensures { λ r. ⌜ r ≡ filled (wordsOf (Loss l)) ⌝ }
+{
+    BlockWords {
+        count: 4,
+        words: [
+            first_word(block::LOSS, l.flag % 4 * 64, LOSS_LENGTH),
+            l.source,
+            halves(l.burst_rate, l.gap_rate),
+            halves(l.burst_mean, l.burst_variance),
+            0,
+            0,
+            0,
+            0,
+            0,
+            0,
+            0,
+            0,
+        ],
+    }
+}
+
+fn discard_words(d: DiscardSummary) -> BlockWords
+    ensures { λ r. ⌜ r ≡ filled (wordsOf (Discard d)) ⌝ }
+{
+    BlockWords {
+        count: 3,
+        words: [
+            first_word(block::DISCARD, d.flag % 4 * 64, DISCARD_LENGTH),
+            d.source,
+            halves(d.burst_rate, d.gap_rate),
+            0,
+            0,
+            0,
+            0,
+            0,
+            0,
+            0,
+            0,
+            0,
+        ],
+    }
+}
+
+fn effective_words(e: EffectiveLoss) -> BlockWords
+    ensures { λ r. ⌜ r ≡ filled (wordsOf (Effective e)) ⌝ }
+{
+    BlockWords {
+        count: 3,
+        words: [
+            first_word(block::EFFECTIVE, 0, EFFECTIVE_LENGTH),
+            e.source,
+            halves(e.index, 0),
+            0,
+            0,
+            0,
+            0,
+            0,
             0,
             0,
             0,

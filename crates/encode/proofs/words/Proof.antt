@@ -1,6 +1,7 @@
 -- `encode::words` meets its contract: each arm is a case of the definition. Assumes nothing.
 use mathlib.Core.Path.{sym, ap, _∙_}
 use Rattle.block.specs.declared.Block.{Block}
+use Rattle.encode.specs.declared.BlockWords.{BlockWords}
 use Rattle.encode.specs.Words.{wordsOf, filled}
 use borrow.Author.Needs.{needs}
 use Rattle.encode.proofs.words.Statement.{statement}
@@ -15,38 +16,20 @@ measurement-words-requires c κs = search needs
 enum-known-b-2 : tie.Need-enum-known-b-2
 enum-known-b-2 c = search needs
 
-mul-first-word : tie.Need-mul-first-word
-mul-first-word c = search needs
-
-first-word-requires : tie.Need-first-word-requires
-first-word-requires c κs = search needs
-
-halves-requires : tie.Need-halves-requires
-halves-requires c κs = search needs
-
-halves-requires-2 : tie.Need-halves-requires-2
-halves-requires-2 c κs = search needs
+loss-words-requires : tie.Need-loss-words-requires
+loss-words-requires c κs = search needs
 
 enum-known-b-3 : tie.Need-enum-known-b-3
 enum-known-b-3 c = search needs
 
-mul-first-word-2 : tie.Need-mul-first-word-2
-mul-first-word-2 c = search needs
-
-first-word-requires-2 : tie.Need-first-word-requires-2
-first-word-requires-2 c κs = search needs
-
-halves-requires-3 : tie.Need-halves-requires-3
-halves-requires-3 c κs = search needs
+discard-words-requires : tie.Need-discard-words-requires
+discard-words-requires c κs = search needs
 
 enum-known-b-4 : tie.Need-enum-known-b-4
 enum-known-b-4 c = search needs
 
-first-word-requires-3 : tie.Need-first-word-requires-3
-first-word-requires-3 c κs = search needs
-
-halves-requires-4 : tie.Need-halves-requires-4
-halves-requires-4 c κs = search needs
+effective-words-requires : tie.Need-effective-words-requires
+effective-words-requires c κs = search needs
 
 enum-known-b-5 : tie.Need-enum-known-b-5
 enum-known-b-5 c = search needs
@@ -54,21 +37,28 @@ enum-known-b-5 c = search needs
 stream-words-requires : tie.Need-stream-words-requires
 stream-words-requires c κs = search needs
 
+made : Block → BlockWords
+made b = filled (wordsOf b)
+
 returns : tie.Need-returns
-returns c = c .measurement-words .ensures ∙ sym (ap (λ (b : Block). filled (wordsOf b)) (c .before .before .b .given .1))
+unfolding made
+returns c = c .measurement-words .ensures ∙ sym (ap made (c .before .before .b .given .1))
 
 returns-2 : tie.Need-returns-2
-returns-2 c =
-    rw (c .before .before .before .before .before .b2 .given .1, c .before .before .first-word .ensures, c .before .halves .ensures, c .halves2 .ensures)
+unfolding made
+returns-2 c = c .loss-words .ensures ∙ sym (ap made (c .before .before .b2 .given .1))
 
 returns-3 : tie.Need-returns-3
-returns-3 c = rw (c .before .before .before .before .b3 .given .1, c .before .first-word2 .ensures, c .halves3 .ensures)
+unfolding made
+returns-3 c = c .discard-words .ensures ∙ sym (ap made (c .before .before .b3 .given .1))
 
 returns-4 : tie.Need-returns-4
-returns-4 c = rw (c .before .before .before .b4 .given .1, c .before .first-word3 .ensures, c .halves4 .ensures)
+unfolding made
+returns-4 c = c .effective-words .ensures ∙ sym (ap made (c .before .before .b4 .given .1))
 
 returns-5 : tie.Need-returns-5
-returns-5 c = c .stream-words .ensures ∙ sym (ap (λ (b : Block). filled (wordsOf b)) (c .before .before .b5 .given .1))
+unfolding made
+returns-5 c = c .stream-words .ensures ∙ sym (ap made (c .before .before .b5 .given .1))
 
 pub words-spec : {M : Type 1} → statement M
 words-spec =
@@ -77,17 +67,11 @@ words-spec =
     enum-known-b
     measurement-words-requires
     enum-known-b-2
-    mul-first-word
-    first-word-requires
-    halves-requires
-    halves-requires-2
+    loss-words-requires
     enum-known-b-3
-    mul-first-word-2
-    first-word-requires-2
-    halves-requires-3
+    discard-words-requires
     enum-known-b-4
-    first-word-requires-3
-    halves-requires-4
+    effective-words-requires
     enum-known-b-5
     stream-words-requires
     returns
