@@ -34,9 +34,10 @@ pub const BAD_RATE: u8 = 3;
 
 pub const UNMEASURED: u8 = 4;
 
-// The highest rate: every packet an event. What is sent for a figure that is unavailable.
+// The highest rate: every packet an event.
 pub const RATE_MAX: u16 = 32_768;
 
+// What is sent for a figure that is unavailable.
 pub const UNAVAILABLE: u16 = 65_535;
 
 // Type 14, Measurement Information: RFC 6776, section 4.

@@ -40,11 +40,13 @@ pub const PACKETS_MAX: u64 = trace::TRACE_MAX as u64;
 // The most milliseconds of all bursts: the most packets at the widest spacing.
 pub const DURATIONS_MAX: u64 = 2_621_440;
 
+// The highest rate, as wide as the sums are.
 const RATE_MAX: u64 = block::RATE_MAX as u64;
 
 // The largest mean or variance that is sent as it is.
 pub const MEASURE_MAX: u64 = 65_533;
 
+// What is sent for a mean or variance above that.
 pub const OVER_RANGE: u16 = 65_534;
 
 // Whether sums can be those of a trace, as far as document 01's list says.

@@ -49,6 +49,7 @@ pub struct Taken {
 // The fewest events of a burst.
 const BURST_MIN: u64 = 2;
 
+// No sum of squares is above the square of the sum.
 const SQUARES_MAX: u64 = bursts::DURATIONS_MAX * bursts::DURATIONS_MAX;
 
 // A tally that has taken no packet.
@@ -161,7 +162,7 @@ impl Tally {
         (most <= bursts::PACKETS_MAX) & open_within(self.stretch, most) & sums_within(sums)
     }
 
-    // The tally after one more packet.
+    // The tally after one more packet, without the soundness test, so that a whole trace is one pass.
     fn step(mut self, packet: u8) -> Tally
         requires { ⌜ Bounded self ⌝ }
         ensures { λ r. ⌜ r ≡ stepOf self packet ⌝ }
@@ -196,6 +197,7 @@ impl Tally {
         self
     }
 
+    // The tally as given, with the reason.
     fn refused(self, why: Refusal) -> Taken
         ensures { λ r. ⌜ r ≡ refusedWith self why ⌝ }
     {
@@ -213,6 +215,7 @@ fn open_within(stretch: Stretch, most: u64) -> bool
     (stretch.events <= most) & (stretch.packets <= most) & (stretch.since <= most)
 }
 
+// Whether sums leave room for one more burst and one more packet.
 fn sums_within(s: Sums) -> bool
     ensures { λ r. ⌜ r ≡ sumsWithin s ⌝ }
 {
