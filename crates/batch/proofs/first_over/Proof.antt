@@ -81,7 +81,7 @@ returns c = sought-all _ _ _ _ _ _ (c .before .batches .inv) (omega arith)
 returns-2 : tie.Need-returns-2 Inv-loop μ-loop Inv-batches μ-batches
 returns-2 c =
     let inv = c .before .before .before .before .before .before .batches .inv in
-    sought-here _ _ _ _ _ _ (inv) (omega arith) (part-over _ _ _ _ _ (more (c .before)) _ (omega arith))
+    sought-here _ _ _ _ _ _ inv (omega arith) (part-over _ _ _ _ _ (more (c .before)) _ (omega arith))
 
 pub first-over-spec : {M : Type 1} → statement M
 first-over-spec =

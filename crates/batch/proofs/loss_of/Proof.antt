@@ -3,7 +3,7 @@ use Prim.Native.Nat.{_≤_}
 use native.Mathlib.Omega.{arith}
 use lib.ListN.{length}
 use Rattle.batch.specs.Batches.{batches}
-use Rattle.batch.specs.Loss.{lossOf}
+use Rattle.batch.proofs.Answering.{loss-is}
 use Rattle.batch.proofs.Counting.{over-most, index-fits}
 use borrow.Author.Needs.{needs}
 use Rattle.batch.proofs.loss_of.Statement.{statement}
@@ -36,8 +36,7 @@ cast-t10 : tie.Need-cast-t10
 cast-t10 c = index-fits _ _ _ (omega (arith, most c)) (omega arith)
 
 returns : tie.Need-returns
-unfolding lossOf
-returns c = rw (c .over-count .ensures, c .before .first-over .ensures)
+returns c = loss-is _ _ _ _ _ _ (c .over-count .ensures) (c .before .first-over .ensures)
 
 pub loss-of-spec : {M : Type 1} → statement M
 loss-of-spec =

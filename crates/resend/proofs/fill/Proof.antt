@@ -61,7 +61,7 @@ loop-less c = omega arith
 loop-again : tie.Need-loop-again Inv-loop μ-loop
 loop-again c =
     let inv = c .before .before .before .before .before .before .loop .inv in
-    enters-fine _ _ _ _ _ _ _ _ _ (inv) (omega arith) _ (c .before .before .before .slide .ensures) (sym (c .before .counts .ensures) ∙ not-true (c .before .counts .result) (c .if1 .taken))
+    enters-fine _ _ _ _ _ _ _ _ _ inv (omega arith) _ (c .before .before .before .slide .ensures) (sym (c .before .counts .ensures) ∙ not-true (c .before .counts .result) (c .if1 .taken))
 
 slice-write-out-2 : tie.Need-slice-write-out-2 Inv-loop μ-loop
 slice-write-out-2 c =
@@ -76,7 +76,7 @@ loop-less-2 c = omega arith
 loop-again-2 : tie.Need-loop-again-2 Inv-loop μ-loop
 loop-again-2 c =
     let inv = c .before .before .before .before .before .before .before .loop .inv in
-    enters-left _ _ _ _ _ _ _ _ _ (inv) (omega arith) _ (c .before .before .before .before .slide .ensures) (is-counted (c .before)) (c .if2 .taken)
+    enters-left _ _ _ _ _ _ _ _ _ inv (omega arith) _ (c .before .before .before .before .slide .ensures) (is-counted (c .before)) (c .if2 .taken)
 
 slice-write-out-3 : tie.Need-slice-write-out-3 Inv-loop μ-loop
 slice-write-out-3 c =
@@ -91,7 +91,7 @@ loop-less-3 c = omega arith
 loop-again-3 : tie.Need-loop-again-3 Inv-loop μ-loop
 loop-again-3 c =
     let inv = c .before .before .before .before .before .before .before .loop .inv in
-    enters-marked _ _ _ _ _ _ _ _ _ (inv) (omega arith) _ (c .before .before .before .before .slide .ensures) (is-counted (c .before)) (c .if2 .left)
+    enters-marked _ _ _ _ _ _ _ _ _ inv (omega arith) _ (c .before .before .before .before .slide .ensures) (is-counted (c .before)) (c .if2 .left)
 
 same-length : tie.Need-same-length Inv-loop μ-loop
 same-length c = long (c .before)
