@@ -232,6 +232,94 @@ nuvaskoe_written nuvaskoe_packet_add_discard(uint8_t *out, size_t out_len, nuvas
 nuvaskoe_written nuvaskoe_packet_add_effective(uint8_t *out, size_t out_len, nuvaskoe_effective_loss block);
 nuvaskoe_written nuvaskoe_packet_add_streams(uint8_t *out, size_t out_len, nuvaskoe_stream_counts block);
 
+/*
+ * Bursts and gaps of a trace: one byte a packet, 0 received, 1 lost, 2 discarded, from 1 to
+ * 65,536 packets. Settings: Gmin 1 to 255 packets, spacing 1 to 40,000 microseconds.
+ */
+
+/* Which packets are counted; every other number is refused with 15. */
+enum {
+    NUVASKOE_LOST = 1,     /* the lost, for a block 17 */
+    NUVASKOE_DISCARDED = 2 /* the discarded, for a block 18 */
+};
+
+/* What is summed over the packets so far. */
+typedef struct nuvaskoe_sums {
+    uint64_t packets;       /* all packets */
+    uint64_t events;        /* those that are counted */
+    uint64_t burst_packets; /* the packets of bursts */
+    uint64_t burst_events;  /* the events of bursts */
+    uint64_t bursts;        /* how many bursts */
+    uint64_t durations;     /* the sum of their durations, in milliseconds */
+    uint64_t squares;       /* the sum of the squares of their durations */
+} nuvaskoe_sums;
+
+/* The last group of events, which the next event may join; its burst is not yet in the sums. */
+typedef struct nuvaskoe_stretch {
+    uint64_t events;  /* 0 where there was no event so far */
+    uint64_t packets; /* from its first event to its last; 0 where there was none */
+    uint64_t since;   /* packets since its last event, or since the start */
+} nuvaskoe_stretch;
+
+/*
+ * A tally: it is passed by value, takes one packet and is handed back. Every tally may be
+ * handed in; docs/PROMISES.md, "tally::Tally::take", says which are sound, and those that are
+ * not are refused with 15. A tally that was opened and took packets is sound at every point.
+ */
+typedef struct nuvaskoe_tally {
+    uint32_t gmin;
+    uint32_t spacing;
+    uint32_t event; /* NUVASKOE_LOST or NUVASKOE_DISCARDED */
+    nuvaskoe_sums sums;
+    nuvaskoe_stretch stretch;
+} nuvaskoe_tally;
+
+/* The answer of opening a tally and of giving it a packet. */
+typedef struct nuvaskoe_tallied {
+    nuvaskoe_refusal refusal;
+    nuvaskoe_tally tally; /* where refused: all 0 of an opening, else as given */
+} nuvaskoe_tallied;
+
+/* The figures as blocks 17 and 18 hold them. */
+typedef struct nuvaskoe_burst_figures {
+    uint16_t burst_rate;     /* 0 to 32,768, or 65,535 for unavailable */
+    uint16_t gap_rate;       /* the same */
+    uint16_t burst_mean;     /* milliseconds; 65,534 for over range, 65,535 for unavailable */
+    uint16_t burst_variance; /* the same two marks */
+} nuvaskoe_burst_figures;
+
+/* The answer of a call that measures. */
+typedef struct nuvaskoe_figured {
+    nuvaskoe_refusal refusal;
+    nuvaskoe_burst_figures figures; /* all 0 where refused */
+} nuvaskoe_figured;
+
+/* A tally that has taken no packet. Refusal: 15. */
+nuvaskoe_tallied nuvaskoe_tally_open(uint32_t gmin, uint32_t spacing, uint32_t event);
+
+/*
+ * The tally after one more packet, 0, 1 or 2.
+ * Refusals, in this order: 15; 10, it has taken 65,536 packets; 9, with place 0.
+ */
+nuvaskoe_tallied nuvaskoe_tally_take(nuvaskoe_tally tally, uint8_t packet);
+
+/* The figures of all packets taken, each unavailable where there was none. Refusal: 15. */
+nuvaskoe_figured nuvaskoe_tally_close(nuvaskoe_tally tally);
+
+/*
+ * The figures of a whole trace: those of a tally that took all its packets.
+ * Refusals, in this order: 15, 10, 9 (placed at the index of the first byte above 2).
+ */
+nuvaskoe_figured nuvaskoe_figures(const uint8_t *trace, size_t trace_len, uint32_t gmin, uint32_t spacing,
+                                  uint32_t event);
+
+/*
+ * The block with these figures, source and interval flag, each as given. Adding it to a packet
+ * is not refused with 16 where the figures were measured and the flag is 1, 2 or 3.
+ */
+nuvaskoe_loss_summary nuvaskoe_loss_block(nuvaskoe_burst_figures figures, uint32_t source, uint8_t flag);
+nuvaskoe_discard_summary nuvaskoe_discard_block(nuvaskoe_burst_figures figures, uint32_t source, uint8_t flag);
+
 #ifdef __cplusplus
 }
 #endif

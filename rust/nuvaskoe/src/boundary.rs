@@ -106,6 +106,58 @@ pub(crate) struct StreamCounts {
     pub(crate) counts: [u32; 8],
 }
 
+#[repr(C)]
+#[derive(Clone, Copy, PartialEq, Eq)]
+pub(crate) struct Sums {
+    pub(crate) packets: u64,
+    pub(crate) events: u64,
+    pub(crate) burst_packets: u64,
+    pub(crate) burst_events: u64,
+    pub(crate) bursts: u64,
+    pub(crate) durations: u64,
+    pub(crate) squares: u64,
+}
+
+#[repr(C)]
+#[derive(Clone, Copy, PartialEq, Eq)]
+pub(crate) struct Stretch {
+    pub(crate) events: u64,
+    pub(crate) packets: u64,
+    pub(crate) since: u64,
+}
+
+#[repr(C)]
+#[derive(Clone, Copy, PartialEq, Eq)]
+pub(crate) struct Tally {
+    pub(crate) gmin: u32,
+    pub(crate) spacing: u32,
+    pub(crate) event: u32,
+    pub(crate) sums: Sums,
+    pub(crate) stretch: Stretch,
+}
+
+#[repr(C)]
+pub(crate) struct Tallied {
+    pub(crate) refusal: Refusal,
+    pub(crate) tally: Tally,
+}
+
+/// `nuvaskoe_burst_figures` in C.
+#[repr(C)]
+#[derive(Clone, Copy)]
+pub(crate) struct Figures {
+    pub(crate) burst_rate: u16,
+    pub(crate) gap_rate: u16,
+    pub(crate) burst_mean: u16,
+    pub(crate) burst_variance: u16,
+}
+
+#[repr(C)]
+pub(crate) struct Figured {
+    pub(crate) refusal: Refusal,
+    pub(crate) figures: Figures,
+}
+
 extern "C" {
     pub(crate) fn nuvaskoe_card_read(card: *const u8, card_len: usize) -> Card;
     pub(crate) fn nuvaskoe_card_write(settings: Settings, out: *mut u8, out_len: usize) -> Written;
@@ -154,6 +206,19 @@ extern "C" {
         out_len: usize,
         block: StreamCounts,
     ) -> Written;
+    pub(crate) fn nuvaskoe_tally_open(gmin: u32, spacing: u32, event: u32) -> Tallied;
+    pub(crate) fn nuvaskoe_tally_take(tally: Tally, packet: u8) -> Tallied;
+    pub(crate) fn nuvaskoe_tally_close(tally: Tally) -> Figured;
+    pub(crate) fn nuvaskoe_figures(
+        trace: *const u8,
+        trace_len: usize,
+        gmin: u32,
+        spacing: u32,
+        event: u32,
+    ) -> Figured;
+    pub(crate) fn nuvaskoe_loss_block(figures: Figures, source: u32, flag: u8) -> LossSummary;
+    pub(crate) fn nuvaskoe_discard_block(figures: Figures, source: u32, flag: u8)
+        -> DiscardSummary;
 }
 
 // The layout that C gives these structs where size_t is 4 or 8 bytes wide.
@@ -201,4 +266,27 @@ const _: () = {
     assert!(offset_of!(StreamCounts, source) == 0 && offset_of!(StreamCounts, begin) == 4);
     assert!(offset_of!(StreamCounts, end) == 6 && offset_of!(StreamCounts, streams) == 8);
     assert!(offset_of!(StreamCounts, counts) == 12);
+    // Tallies: 64-bit counts, after three numbers of 4 bytes and, where C aligns them to 8, a gap.
+    const LONG: usize = align_of::<u64>();
+    assert!(size_of::<Sums>() == 56 && align_of::<Sums>() == LONG);
+    assert!(offset_of!(Sums, packets) == 0 && offset_of!(Sums, events) == 8);
+    assert!(offset_of!(Sums, burst_packets) == 16 && offset_of!(Sums, burst_events) == 24);
+    assert!(offset_of!(Sums, bursts) == 32 && offset_of!(Sums, durations) == 40);
+    assert!(offset_of!(Sums, squares) == 48);
+    assert!(size_of::<Stretch>() == 24 && align_of::<Stretch>() == LONG);
+    assert!(offset_of!(Stretch, events) == 0 && offset_of!(Stretch, packets) == 8);
+    assert!(offset_of!(Stretch, since) == 16);
+    assert!(align_of::<Tally>() == LONG && offset_of!(Tally, gmin) == 0);
+    assert!(offset_of!(Tally, spacing) == 4 && offset_of!(Tally, event) == 8);
+    assert!(offset_of!(Tally, sums) == 12usize.next_multiple_of(LONG));
+    assert!(offset_of!(Tally, stretch) == offset_of!(Tally, sums) + 56);
+    assert!(size_of::<Tally>() == offset_of!(Tally, stretch) + 24);
+    assert!(offset_of!(Tallied, refusal) == 0);
+    assert!(offset_of!(Tallied, tally) == (2 * WORD).next_multiple_of(LONG));
+    assert!(size_of::<Tallied>() == offset_of!(Tallied, tally) + size_of::<Tally>());
+    assert!(size_of::<Figures>() == 8 && align_of::<Figures>() == 2);
+    assert!(offset_of!(Figures, burst_rate) == 0 && offset_of!(Figures, gap_rate) == 2);
+    assert!(offset_of!(Figures, burst_mean) == 4 && offset_of!(Figures, burst_variance) == 6);
+    assert!(size_of::<Figured>() == 2 * WORD + 8 && align_of::<Figured>() == WORD);
+    assert!(offset_of!(Figured, refusal) == 0 && offset_of!(Figured, figures) == 2 * WORD);
 };

@@ -19,7 +19,10 @@
 pub mod block;
 mod boundary;
 pub mod card;
+pub mod figures;
 pub mod packet;
+pub mod tally;
+pub mod trace;
 
 use std::{error, fmt};
 

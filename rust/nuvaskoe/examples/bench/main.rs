@@ -1,5 +1,5 @@
-//! Times the library's packet calls beside the independent ones, on the same packets and
-//! in one run:
+//! Times the library's calls beside the independent ones, on the same packets and traces
+//! and in one run:
 //!
 //! ```text
 //! cargo run --release --offline --example bench
@@ -8,11 +8,13 @@
 //! Each figure is the least of several rounds, in nanoseconds a call. `read` asks for the
 //! sender and the number of blocks, `all` for every block's offset and verdict, `last`
 //! for the last block by its index. `add` adds one block to the packet named, and `make`
-//! makes the packet named from a new one, by adding one block after the other.
+//! makes the packet named from a new one, by adding one block after the other. `figs` gives
+//! the burst figures of the trace named, a byte a packet.
 
 #[path = "../../tests/support/mod.rs"]
 mod support;
 
+mod measuring;
 mod reading;
 mod writing;
 
@@ -66,4 +68,5 @@ fn main() {
     );
     reading::time();
     writing::time();
+    measuring::time();
 }

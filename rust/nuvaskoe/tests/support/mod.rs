@@ -4,6 +4,7 @@
 
 pub mod adding;
 pub mod compare;
+pub mod measuring;
 pub mod packets;
 
 use std::{env, fmt, ops::RangeInclusive, str::FromStr};

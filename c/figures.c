@@ -1,0 +1,255 @@
+/* figures.c: tallies, figures and their blocks through the C boundary, by plain comparisons. */
+#include <stdio.h>
+#include <string.h>
+
+#include "nuvaskoe.h"
+
+static int checks;
+static int failures;
+
+#define CHECK(condition)                                                        \
+    do {                                                                        \
+        checks++;                                                               \
+        if (!(condition)) {                                                     \
+            failures++;                                                         \
+            fprintf(stderr, "%s:%d: not so: %s\n", __FILE__, __LINE__, #condition); \
+        }                                                                       \
+    } while (0)
+
+/* The longest trace, and a rate, mean or variance that is unavailable or over range. */
+#define LONGEST 65536
+#define NONE 65535
+#define OVER 65534
+
+/* P6 of document 01: bursts of three packets and of two, Gmin 2. */
+static const uint8_t p6[11] = {1, 0, 1, 0, 0, 1, 0, 0, 0, 1, 1};
+
+static uint8_t longest[LONGEST + 1];
+
+static int same_figures(nuvaskoe_burst_figures one, nuvaskoe_burst_figures other)
+{
+    return one.burst_rate == other.burst_rate && one.gap_rate == other.gap_rate &&
+           one.burst_mean == other.burst_mean && one.burst_variance == other.burst_variance;
+}
+
+static int figured(nuvaskoe_figured answer, uint16_t burst, uint16_t gap, uint16_t mean, uint16_t variance)
+{
+    nuvaskoe_burst_figures expected;
+    expected.burst_rate = burst;
+    expected.gap_rate = gap;
+    expected.burst_mean = mean;
+    expected.burst_variance = variance;
+    return answer.refusal.number == NUVASKOE_OK && answer.refusal.place == 0 &&
+           same_figures(answer.figures, expected);
+}
+
+/* A refused measuring gives its number and place and no figures. */
+static int not_figured(nuvaskoe_figured answer, uint32_t number, size_t place)
+{
+    static const nuvaskoe_burst_figures nothing;
+    return answer.refusal.number == number && answer.refusal.place == place &&
+           same_figures(answer.figures, nothing);
+}
+
+static int same_tally(nuvaskoe_tally one, nuvaskoe_tally other)
+{
+    return one.gmin == other.gmin && one.spacing == other.spacing && one.event == other.event &&
+           one.sums.packets == other.sums.packets && one.sums.events == other.sums.events &&
+           one.sums.burst_packets == other.sums.burst_packets &&
+           one.sums.burst_events == other.sums.burst_events && one.sums.bursts == other.sums.bursts &&
+           one.sums.durations == other.sums.durations && one.sums.squares == other.sums.squares &&
+           one.stretch.events == other.stretch.events && one.stretch.packets == other.stretch.packets &&
+           one.stretch.since == other.stretch.since;
+}
+
+/* A tally that refuses a packet comes back as given. */
+static int not_taken(nuvaskoe_tally tally, uint8_t packet, uint32_t number)
+{
+    nuvaskoe_tallied answer = nuvaskoe_tally_take(tally, packet);
+    return answer.refusal.number == number && answer.refusal.place == 0 && same_tally(answer.tally, tally);
+}
+
+/* Every field of its own, in a tally that is sound: 20 packets, three bursts, the last open. */
+static nuvaskoe_tally odd_tally(void)
+{
+    nuvaskoe_tally tally;
+    memset(&tally, 0xFF, sizeof tally);
+    tally.gmin = 3;
+    tally.spacing = 1000;
+    tally.event = NUVASKOE_LOST;
+    tally.sums.packets = 20;
+    tally.sums.events = 11;
+    tally.sums.burst_packets = 9;
+    tally.sums.burst_events = 7;
+    tally.sums.bursts = 2;
+    tally.sums.durations = 10;
+    tally.sums.squares = 53;
+    tally.stretch.events = 4;
+    tally.stretch.packets = 5;
+    tally.stretch.since = 1;
+    return tally;
+}
+
+static void check_figures(void)
+{
+    static const uint8_t lost[3] = {1, 1, 1};
+    static const uint8_t received[3] = {0, 0, 0};
+    static const uint8_t discarded[4] = {2, 1, 2, 0};
+    CHECK(figured(nuvaskoe_figures(p6, sizeof p6, 2, 1000, NUVASKOE_LOST), 26214, 5461, 2, 2));
+    CHECK(figured(nuvaskoe_figures(p6, sizeof p6, 2, 1000, NUVASKOE_DISCARDED), NONE, 0, NONE, NONE));
+    CHECK(figured(nuvaskoe_figures(lost, 3, 16, 1000, NUVASKOE_LOST), 32768, NONE, 3, 0));
+    CHECK(figured(nuvaskoe_figures(lost, 1, 16, 1000, NUVASKOE_LOST), NONE, 32768, NONE, NONE));
+    CHECK(figured(nuvaskoe_figures(received, 3, 16, 1000, NUVASKOE_LOST), NONE, 0, NONE, NONE));
+    CHECK(figured(nuvaskoe_figures(discarded, 4, 2, 40000, NUVASKOE_DISCARDED), 21845, 0, 120, 0));
+    CHECK(figured(nuvaskoe_figures(discarded, 4, 1, 40000, NUVASKOE_DISCARDED), NONE, 16384, NONE, NONE));
+}
+
+static void check_figures_refused(void)
+{
+    static const uint32_t events[5] = {0, 3, 257, 0x10001, UINT32_MAX};
+    static const uint8_t bad[4] = {0, 2, 3, 255};
+    size_t i;
+    for (i = 0; i < 5; i++) {
+        CHECK(not_figured(nuvaskoe_figures(p6, sizeof p6, 2, 1000, events[i]), NUVASKOE_SETTING, 0));
+        CHECK(not_figured(nuvaskoe_figures(bad, 0, 2, 1000, events[i]), NUVASKOE_SETTING, 0));
+    }
+    CHECK(not_figured(nuvaskoe_figures(p6, sizeof p6, 0, 1000, NUVASKOE_LOST), NUVASKOE_SETTING, 0));
+    CHECK(not_figured(nuvaskoe_figures(p6, sizeof p6, 256, 1000, NUVASKOE_LOST), NUVASKOE_SETTING, 0));
+    CHECK(not_figured(nuvaskoe_figures(p6, sizeof p6, 2, 0, NUVASKOE_LOST), NUVASKOE_SETTING, 0));
+    CHECK(not_figured(nuvaskoe_figures(p6, sizeof p6, 2, 40001, NUVASKOE_LOST), NUVASKOE_SETTING, 0));
+    CHECK(not_figured(nuvaskoe_figures(bad, 0, 2, 0, NUVASKOE_LOST), NUVASKOE_SETTING, 0));
+    CHECK(not_figured(nuvaskoe_figures(bad, 0, 2, 1000, NUVASKOE_LOST), NUVASKOE_TRACE_LENGTH, 0));
+    CHECK(not_figured(nuvaskoe_figures(bad, 4, 2, 1000, NUVASKOE_LOST), NUVASKOE_TRACE_BYTE, 2));
+    CHECK(not_figured(nuvaskoe_figures(bad + 3, 1, 2, 1000, NUVASKOE_LOST), NUVASKOE_TRACE_BYTE, 0));
+}
+
+static void check_longest(void)
+{
+    nuvaskoe_tallied answer = nuvaskoe_tally_open(255, 40000, NUVASKOE_LOST);
+    size_t i;
+    memset(longest, 1, sizeof longest);
+    CHECK(figured(nuvaskoe_figures(longest, LONGEST, 255, 40000, NUVASKOE_LOST), 32768, NONE, OVER, 0));
+    CHECK(figured(nuvaskoe_figures(longest, LONGEST, 1, 999, NUVASKOE_LOST), 32768, NONE, 65470, 0));
+    longest[LONGEST] = 3;
+    CHECK(not_figured(nuvaskoe_figures(longest, LONGEST + 1, 1, 999, NUVASKOE_LOST), NUVASKOE_TRACE_LENGTH, 0));
+    for (i = 0; i < LONGEST && answer.refusal.number == NUVASKOE_OK; i++) {
+        answer = nuvaskoe_tally_take(answer.tally, 1);
+    }
+    CHECK(i == LONGEST && answer.refusal.number == NUVASKOE_OK);
+    CHECK(answer.tally.sums.packets == LONGEST && answer.tally.stretch.packets == LONGEST);
+    CHECK(figured(nuvaskoe_tally_close(answer.tally), 32768, NONE, OVER, 0));
+    CHECK(not_taken(answer.tally, 0, NUVASKOE_TRACE_LENGTH));
+    CHECK(not_taken(answer.tally, 3, NUVASKOE_TRACE_LENGTH));
+    longest[LONGEST - 1] = 3;
+    CHECK(not_figured(nuvaskoe_figures(longest, LONGEST, 1, 999, NUVASKOE_LOST), NUVASKOE_TRACE_BYTE, LONGEST - 1));
+}
+
+/* A tally closes at every point with the figures of the packets so far. */
+static void check_tally(void)
+{
+    static const nuvaskoe_tally nothing;
+    nuvaskoe_tallied answer = nuvaskoe_tally_open(2, 1000, NUVASKOE_LOST);
+    nuvaskoe_tally expected = nothing;
+    size_t i;
+    expected.gmin = 2;
+    expected.spacing = 1000;
+    expected.event = NUVASKOE_LOST;
+    CHECK(answer.refusal.number == NUVASKOE_OK && same_tally(answer.tally, expected));
+    CHECK(figured(nuvaskoe_tally_close(answer.tally), NONE, NONE, NONE, NONE));
+    for (i = 0; i < sizeof p6; i++) {
+        nuvaskoe_figured whole = nuvaskoe_figures(p6, i + 1, 2, 1000, NUVASKOE_LOST);
+        CHECK(not_taken(answer.tally, 3, NUVASKOE_TRACE_BYTE));
+        CHECK(not_taken(answer.tally, 255, NUVASKOE_TRACE_BYTE));
+        answer = nuvaskoe_tally_take(answer.tally, p6[i]);
+        CHECK(answer.refusal.number == NUVASKOE_OK && answer.refusal.place == 0);
+        CHECK(whole.refusal.number == NUVASKOE_OK);
+        CHECK(same_figures(nuvaskoe_tally_close(answer.tally).figures, whole.figures));
+    }
+    CHECK(figured(nuvaskoe_tally_close(answer.tally), 26214, 5461, 2, 2));
+}
+
+static void check_tally_refused(void)
+{
+    static const uint32_t settings[6][3] = {{0, 1000, 1},  {256, 1000, 1}, {16, 0, 1},
+                                            {16, 40001, 1}, {16, 1000, 0},  {16, 1000, 3}};
+    static const nuvaskoe_tally nothing;
+    nuvaskoe_tally tally = odd_tally();
+    size_t i;
+    CHECK(figured(nuvaskoe_tally_close(tally), 25746, 0, 5, 1));
+    CHECK(nuvaskoe_tally_take(tally, 0).refusal.number == NUVASKOE_OK);
+    for (i = 0; i < 6; i++) {
+        nuvaskoe_tallied answer = nuvaskoe_tally_open(settings[i][0], settings[i][1], settings[i][2]);
+        CHECK(answer.refusal.number == NUVASKOE_SETTING && answer.refusal.place == 0);
+        CHECK(same_tally(answer.tally, nothing));
+        tally.gmin = settings[i][0];
+        tally.spacing = settings[i][1];
+        tally.event = settings[i][2];
+        CHECK(not_taken(tally, 0, NUVASKOE_SETTING));
+        CHECK(not_taken(tally, 3, NUVASKOE_SETTING));
+        CHECK(not_figured(nuvaskoe_tally_close(tally), NUVASKOE_SETTING, 0));
+    }
+    tally = odd_tally();
+    tally.event = UINT32_MAX;
+    CHECK(not_taken(tally, 0, NUVASKOE_SETTING));
+    tally = odd_tally();
+    tally.sums.squares = UINT64_MAX;
+    CHECK(not_taken(tally, 0, NUVASKOE_SETTING));
+    CHECK(not_figured(nuvaskoe_tally_close(tally), NUVASKOE_SETTING, 0));
+    tally = odd_tally();
+    tally.stretch.since = 21;
+    CHECK(not_taken(tally, 1, NUVASKOE_SETTING));
+    tally.stretch.since = UINT64_MAX;
+    CHECK(not_taken(tally, 1, NUVASKOE_SETTING));
+    tally = nothing;
+    CHECK(not_taken(tally, 0, NUVASKOE_SETTING));
+    CHECK(not_figured(nuvaskoe_tally_close(tally), NUVASKOE_SETTING, 0));
+}
+
+/* Blocks hold the figures as given, and those of a trace are added and read back. */
+static void check_blocks(void)
+{
+    nuvaskoe_burst_figures figures = nuvaskoe_figures(p6, sizeof p6, 2, 1000, NUVASKOE_LOST).figures;
+    nuvaskoe_loss_summary loss = nuvaskoe_loss_block(figures, 0x01020304, 3);
+    nuvaskoe_discard_summary discard = nuvaskoe_discard_block(figures, 0x05060708, 2);
+    static const uint32_t expected[6] = {3, 0x01020304, 26214, 5461, 2, 2};
+    uint8_t packet[36];
+    nuvaskoe_block block;
+    CHECK(loss.flag == 3 && loss.source == 0x01020304);
+    CHECK(loss.burst_rate == 26214 && loss.gap_rate == 5461);
+    CHECK(loss.burst_mean == 2 && loss.burst_variance == 2);
+    CHECK(discard.flag == 2 && discard.source == 0x05060708);
+    CHECK(discard.burst_rate == 26214 && discard.gap_rate == 5461);
+    CHECK(nuvaskoe_packet_new(1, packet, sizeof packet).size == 8);
+    CHECK(nuvaskoe_packet_add_loss(packet, sizeof packet, loss).size == 24);
+    CHECK(nuvaskoe_packet_add_discard(packet, sizeof packet, discard).size == 36);
+    block = nuvaskoe_block_read(packet[8], packet[9], packet + 12, 12);
+    CHECK(block.type == 17 && block.verdict == NUVASKOE_TYPED);
+    CHECK(memcmp(block.fields, expected, sizeof expected) == 0);
+    figures.burst_rate = 1;
+    figures.gap_rate = 32769;
+    figures.burst_mean = 65533;
+    figures.burst_variance = 4;
+    loss = nuvaskoe_loss_block(figures, UINT32_MAX, 255);
+    CHECK(loss.flag == 255 && loss.source == UINT32_MAX);
+    CHECK(loss.burst_rate == 1 && loss.gap_rate == 32769);
+    CHECK(loss.burst_mean == 65533 && loss.burst_variance == 4);
+    discard = nuvaskoe_discard_block(figures, 0, 0);
+    CHECK(discard.flag == 0 && discard.source == 0);
+    CHECK(discard.burst_rate == 1 && discard.gap_rate == 32769);
+}
+
+int main(void)
+{
+    check_figures();
+    check_figures_refused();
+    check_longest();
+    check_tally();
+    check_tally_refused();
+    check_blocks();
+    if (failures != 0) {
+        fprintf(stderr, "figures.c: %d of %d checks failed\n", failures, checks);
+        return 1;
+    }
+    printf("figures.c: %d checks passed\n", checks);
+    return 0;
+}

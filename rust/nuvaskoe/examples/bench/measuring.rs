@@ -1,0 +1,49 @@
+//! Traces measured.
+
+use super::{
+    print, race,
+    support::{
+        measuring::{figures_both, library_event, LONGEST},
+        Random,
+    },
+};
+use independent::{burst, trace::Event};
+use std::hint::black_box;
+
+const GMIN: u32 = 16;
+const SPACING: u32 = 400;
+
+pub fn time() {
+    let mut random = Random::new("bench");
+    let one_in_20: Vec<u8> = (0..LONGEST)
+        .map(|_| u8::from(random.below(20) == 0))
+        .collect();
+    time_trace("5 % lost at random", &one_in_20);
+    time_trace("lost in bursts", &bursty(&mut random));
+    time_trace("all lost", &vec![1; LONGEST]);
+    time_trace("none lost", &vec![0; LONGEST]);
+}
+
+/// Runs of up to 30 packets, four of five lost, between up to 400 received.
+fn bursty(random: &mut Random) -> Vec<u8> {
+    let mut trace = Vec::new();
+    while trace.len() < LONGEST {
+        trace.resize(trace.len() + 1 + random.below(400), 0);
+        for _ in 0..random.below(30) {
+            trace.push(u8::from(random.below(5) != 0));
+        }
+    }
+    trace.truncate(LONGEST);
+    trace
+}
+
+fn time_trace(name: &str, trace: &[u8]) {
+    figures_both(trace, GMIN, SPACING, Event::Lost).expect("a good trace");
+    let event = library_event(Event::Lost);
+    let (wide_gmin, wide_spacing) = (GMIN.into(), SPACING.into());
+    let times = race(
+        || nuvaskoe::figures::of_trace(black_box(trace), GMIN, SPACING, event),
+        || burst::running_figures(black_box(trace), wide_gmin, wide_spacing, Event::Lost),
+    );
+    print(name, trace.len(), "figs", times);
+}

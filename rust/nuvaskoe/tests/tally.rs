@@ -1,0 +1,201 @@
+//! Tallies fed packet by packet, with both implementations: at every point they close with
+//! the figures of the packets so far.
+
+mod support;
+
+use independent::{burst::Figures, tally::Tally as Independent, trace::Event};
+use nuvaskoe::tally::{Stretch, Sums, Tally};
+use support::{
+    compare::Answer,
+    from_env,
+    measuring::{
+        close_both, figures_both, independent_tally, library_event, random_gmin, random_spacing,
+        random_trace, take_both, EVENTS, LONGEST, UNAVAILABLE,
+    },
+    Random,
+};
+
+const NO_PACKET: Answer<Figures> = Ok(Figures {
+    burst_rate: UNAVAILABLE,
+    gap_rate: UNAVAILABLE,
+    mean: UNAVAILABLE,
+    variance: UNAVAILABLE,
+});
+
+/// A tally of each, fed alike.
+#[derive(Clone, Copy)]
+struct Pair {
+    ours: Tally,
+    theirs: Independent,
+}
+
+impl Pair {
+    fn open(gmin: u32, spacing: u32, event: Event) -> Pair {
+        let ours = Tally::open(gmin, spacing, library_event(event)).expect("good settings");
+        let theirs = Independent::open(gmin.into(), spacing.into(), event).expect("good settings");
+        Pair { ours, theirs }
+    }
+
+    /// Both take a good packet.
+    fn take(self, packet: u8) -> Pair {
+        let (ours, answer) = take_both(self.ours, packet);
+        assert_eq!(answer, Ok(()), "{:?}, {packet}", self.ours);
+        let (theirs, answer) = self.theirs.take(packet);
+        assert_eq!(answer, Ok(()), "{:?}, {packet}", self.theirs);
+        Pair { ours, theirs }
+    }
+
+    /// Both are sound, and close alike.
+    fn close(self) -> Answer<Figures> {
+        assert!(independent_tally(&self.ours).sound(), "{:?}", self.ours);
+        let answer = close_both(self.ours);
+        assert_eq!(answer, Ok(self.theirs.close().expect("a sound tally")));
+        answer
+    }
+}
+
+#[test]
+fn opened() {
+    const SETTINGS: [u32; 9] = [0, 1, 2, 255, 256, 40_000, 40_001, 1 << 31, u32::MAX];
+    for gmin in SETTINGS {
+        for spacing in SETTINGS {
+            for event in EVENTS {
+                let answer = Tally::open(gmin, spacing, library_event(event));
+                let good = Independent::open(gmin.into(), spacing.into(), event).is_ok();
+                assert_eq!(
+                    good,
+                    (1..=255).contains(&gmin) && (1..=40_000).contains(&spacing)
+                );
+                let fresh = Tally {
+                    gmin,
+                    spacing,
+                    event: library_event(event),
+                    sums: Sums::default(),
+                    stretch: Stretch::default(),
+                };
+                match answer {
+                    Ok(tally) => assert!(good && tally == fresh),
+                    Err(refusal) => {
+                        assert_eq!((good, refusal.number, refusal.place), (false, 15, 0))
+                    }
+                }
+                // Handed in as it is, the same tally is refused for the same reason.
+                let expected = if good { NO_PACKET } else { Err((15, 0)) };
+                assert_eq!(close_both(fresh), expected);
+                assert_eq!(take_both(fresh, 1).1.is_ok(), good);
+            }
+        }
+    }
+}
+
+/// All traces that go on from `trace`, up to nine packets.
+fn check_from(pair: Pair, trace: &mut Vec<u8>, gmin: u32, spacing: u32, event: Event) {
+    let expected = match trace.is_empty() {
+        true => NO_PACKET,
+        false => figures_both(trace, gmin, spacing, event),
+    };
+    assert_eq!(pair.close(), expected, "{trace:?}");
+    if trace.len() == 9 {
+        return;
+    }
+    for packet in 0..=2 {
+        trace.push(packet);
+        check_from(pair.take(packet), trace, gmin, spacing, event);
+        trace.pop();
+    }
+}
+
+#[test]
+fn all_short_traces() {
+    for gmin in 1..=4 {
+        for spacing in [1, 700, 40_000] {
+            for event in EVENTS {
+                let pair = Pair::open(gmin, spacing, event);
+                check_from(pair, &mut Vec::new(), gmin, spacing, event);
+            }
+        }
+    }
+}
+
+/// Closes after every packet as the independent tally does, and after some as the figures
+/// of the packets so far.
+fn check_fed(trace: &[u8], gmin: u32, spacing: u32, event: Event, every: usize) -> Tally {
+    let mut pair = Pair::open(gmin, spacing, event);
+    for (index, packet) in trace.iter().enumerate() {
+        pair = pair.take(*packet);
+        let closed = pair.close();
+        let length = index + 1;
+        if length % every == 0 || length == trace.len() {
+            let prefix = figures_both(&trace[..length], gmin, spacing, event);
+            assert_eq!(closed, prefix, "{length}");
+        }
+    }
+    pair.ours
+}
+
+#[test]
+fn every_prefix() {
+    let mut random = Random::new("every_prefix");
+    for _ in 0..from_env("NUVASKOE_TRACES", 150) {
+        let most = random.one_of(&[30, 600]);
+        let length = 1 + random.below(most);
+        let trace = random_trace(&mut random, length);
+        let (gmin, spacing) = (random_gmin(&mut random), random_spacing(&mut random));
+        for event in EVENTS {
+            check_fed(&trace, gmin, spacing, event, 1);
+        }
+    }
+}
+
+/// A tally at 65,536 packets takes no more, and is not changed by asking.
+fn check_full(tally: Tally) {
+    assert_eq!(tally.sums.packets, LONGEST as u64);
+    for packet in 0..=u8::MAX {
+        assert_eq!(take_both(tally, packet), (tally, Err((10, 0))));
+    }
+}
+
+#[test]
+fn long_traces() {
+    let mut random = Random::new("long_traces");
+    for _ in 0..from_env("NUVASKOE_LONG_TRACES", 6) {
+        let trace = random_trace(&mut random, LONGEST);
+        let (gmin, spacing) = (random_gmin(&mut random), random_spacing(&mut random));
+        for event in EVENTS {
+            check_full(check_fed(&trace, gmin, spacing, event, 9_973));
+        }
+    }
+}
+
+/// The longest traces of one kind, and with events just near enough or just too far apart.
+#[test]
+fn longest_regular_traces() {
+    for (kind, event) in [(1, Event::Lost), (2, Event::Discarded)] {
+        for (gmin, spacing) in [(1, 1), (255, 40_000)] {
+            for apart in [1, 2, 3, 255, 256, 257, LONGEST] {
+                let mut trace = vec![0; LONGEST];
+                trace
+                    .iter_mut()
+                    .step_by(apart)
+                    .for_each(|packet| *packet = kind);
+                check_full(check_fed(&trace, gmin, spacing, event, 16_411));
+            }
+        }
+    }
+}
+
+/// A byte above 2 is refused with place 0, wherever the tally stands, and changes nothing.
+#[test]
+fn bad_bytes() {
+    let mut random = Random::new("bad_bytes");
+    let trace = random_trace(&mut random, 300);
+    for event in EVENTS {
+        let mut pair = Pair::open(3, 1_000, event);
+        for packet in &trace {
+            for byte in 3..=u8::MAX {
+                assert_eq!(take_both(pair.ours, byte), (pair.ours, Err((9, 0))));
+            }
+            pair = pair.take(*packet);
+        }
+    }
+}
