@@ -77,9 +77,9 @@ static nuvaskoe_discard_summary discard(void)
     return block;
 }
 
-static nuvaskoe_effective_loss effective(void)
+static nuvaskoe_effective_summary effective(void)
 {
-    nuvaskoe_effective_loss block;
+    nuvaskoe_effective_summary block;
     memset(&block, 0xFF, sizeof block);
     block.source = 2;
     block.index = 37448;

@@ -188,10 +188,10 @@ typedef struct nuvaskoe_discard_summary {
 } nuvaskoe_discard_summary;
 
 /* Type 240: effective loss. */
-typedef struct nuvaskoe_effective_loss {
+typedef struct nuvaskoe_effective_summary {
     uint32_t source;
     uint16_t index; /* effective loss index; 65,535 is full loss */
-} nuvaskoe_effective_loss;
+} nuvaskoe_effective_summary;
 
 /* Type 241: counts of transport stream errors. It covers end minus begin packets, modulo 65,536. */
 typedef struct nuvaskoe_stream_counts {
@@ -229,7 +229,7 @@ nuvaskoe_written nuvaskoe_packet_new(uint32_t sender, uint8_t *out, size_t out_l
 nuvaskoe_written nuvaskoe_packet_add_measurement(uint8_t *out, size_t out_len, nuvaskoe_measurement block);
 nuvaskoe_written nuvaskoe_packet_add_loss(uint8_t *out, size_t out_len, nuvaskoe_loss_summary block);
 nuvaskoe_written nuvaskoe_packet_add_discard(uint8_t *out, size_t out_len, nuvaskoe_discard_summary block);
-nuvaskoe_written nuvaskoe_packet_add_effective(uint8_t *out, size_t out_len, nuvaskoe_effective_loss block);
+nuvaskoe_written nuvaskoe_packet_add_effective(uint8_t *out, size_t out_len, nuvaskoe_effective_summary block);
 nuvaskoe_written nuvaskoe_packet_add_streams(uint8_t *out, size_t out_len, nuvaskoe_stream_counts block);
 
 /*
@@ -319,6 +319,41 @@ nuvaskoe_figured nuvaskoe_figures(const uint8_t *trace, size_t trace_len, uint32
  */
 nuvaskoe_loss_summary nuvaskoe_loss_block(nuvaskoe_burst_figures figures, uint32_t source, uint8_t flag);
 nuvaskoe_discard_summary nuvaskoe_discard_block(nuvaskoe_burst_figures figures, uint32_t source, uint8_t flag);
+
+/*
+ * Batches: all runs of `batch` consecutive packets of a trace. A trace has one byte a packet,
+ * 0 received, 1 lost, 2 discarded; a discarded packet is no loss. A batch is over the
+ * threshold when it holds more than `threshold` losses. The refusals of both calls, in this
+ * order: 15 (batch 1 to 1,024, threshold 0 to 1,024), 10, 9 (placed at the first bad byte), 14.
+ */
+
+/* How many batches of a trace are over the threshold. Where refused, all after refusal is 0. */
+typedef struct nuvaskoe_loss {
+    nuvaskoe_refusal refusal;
+    size_t over;    /* batches over the threshold */
+    size_t batches; /* all batches */
+    size_t first;   /* the first batch that is over, by its first packet's index; 0 where none is */
+    uint32_t index; /* the integer part of over * 65,535 / batches */
+    uint32_t found; /* 1 where a batch is over the threshold, else 0 */
+} nuvaskoe_loss;
+
+/* The answer of making a resend plan. */
+typedef struct nuvaskoe_marks {
+    nuvaskoe_refusal refusal;
+    size_t marks; /* how many packets the plan marks; 0 where refused */
+} nuvaskoe_marks;
+
+/* The effective loss of a trace. */
+nuvaskoe_loss nuvaskoe_effective_loss(const uint8_t *trace, size_t trace_len, uint32_t batch, uint32_t threshold);
+
+/*
+ * Writes the smallest resend plan into the front of out, one byte a packet: 1 for a lost
+ * packet to resend and 0 for any other. With the marked packets received no batch is over
+ * the threshold, and no plan of fewer marks does that. The bytes after the plan keep what
+ * they held. Further refusal: 8, out is shorter than the trace.
+ */
+nuvaskoe_marks nuvaskoe_resend_plan(const uint8_t *trace, size_t trace_len, uint32_t batch, uint32_t threshold,
+                                    uint8_t *out, size_t out_len);
 
 #ifdef __cplusplus
 }

@@ -158,6 +158,23 @@ pub(crate) struct Figured {
     pub(crate) figures: Figures,
 }
 
+/// `nuvaskoe_loss` in C.
+#[repr(C)]
+pub(crate) struct BatchLoss {
+    pub(crate) refusal: Refusal,
+    pub(crate) over: usize,
+    pub(crate) batches: usize,
+    pub(crate) first: usize,
+    pub(crate) index: u32,
+    pub(crate) found: u32,
+}
+
+#[repr(C)]
+pub(crate) struct Marks {
+    pub(crate) refusal: Refusal,
+    pub(crate) marks: usize,
+}
+
 extern "C" {
     pub(crate) fn nuvaskoe_card_read(card: *const u8, card_len: usize) -> Card;
     pub(crate) fn nuvaskoe_card_write(settings: Settings, out: *mut u8, out_len: usize) -> Written;
@@ -219,6 +236,20 @@ extern "C" {
     pub(crate) fn nuvaskoe_loss_block(figures: Figures, source: u32, flag: u8) -> LossSummary;
     pub(crate) fn nuvaskoe_discard_block(figures: Figures, source: u32, flag: u8)
         -> DiscardSummary;
+    pub(crate) fn nuvaskoe_effective_loss(
+        trace: *const u8,
+        trace_len: usize,
+        batch: u32,
+        threshold: u32,
+    ) -> BatchLoss;
+    pub(crate) fn nuvaskoe_resend_plan(
+        trace: *const u8,
+        trace_len: usize,
+        batch: u32,
+        threshold: u32,
+        out: *mut u8,
+        out_len: usize,
+    ) -> Marks;
 }
 
 // The layout that C gives these structs where size_t is 4 or 8 bytes wide.
@@ -289,4 +320,11 @@ const _: () = {
     assert!(offset_of!(Figures, burst_mean) == 4 && offset_of!(Figures, burst_variance) == 6);
     assert!(size_of::<Figured>() == 2 * WORD + 8 && align_of::<Figured>() == WORD);
     assert!(offset_of!(Figured, refusal) == 0 && offset_of!(Figured, figures) == 2 * WORD);
+    assert!(size_of::<BatchLoss>() == 5 * WORD + 8 && align_of::<BatchLoss>() == WORD);
+    assert!(offset_of!(BatchLoss, refusal) == 0 && offset_of!(BatchLoss, over) == 2 * WORD);
+    assert!(offset_of!(BatchLoss, batches) == 3 * WORD);
+    assert!(offset_of!(BatchLoss, first) == 4 * WORD && offset_of!(BatchLoss, index) == 5 * WORD);
+    assert!(offset_of!(BatchLoss, found) == 5 * WORD + 4);
+    assert!(size_of::<Marks>() == 3 * WORD && align_of::<Marks>() == WORD);
+    assert!(offset_of!(Marks, refusal) == 0 && offset_of!(Marks, marks) == 2 * WORD);
 };

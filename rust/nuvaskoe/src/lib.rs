@@ -24,6 +24,9 @@ pub mod packet;
 pub mod tally;
 pub mod trace;
 
+pub mod effective;
+pub mod resend;
+
 use std::{error, fmt};
 
 /// Why a call said no.

@@ -9,11 +9,13 @@
 //! sender and the number of blocks, `all` for every block's offset and verdict, `last`
 //! for the last block by its index. `add` adds one block to the packet named, and `make`
 //! makes the packet named from a new one, by adding one block after the other. `figs` gives
-//! the burst figures of the trace named, a byte a packet.
+//! the burst figures of the trace named, a byte a packet, `plan` its resend plan and `loss`
+//! its effective loss; in rows "B x by B y" both times are ours, with batches of x and of y.
 
 #[path = "../../tests/support/mod.rs"]
 mod support;
 
+mod batches;
 mod measuring;
 mod reading;
 mod writing;
@@ -69,4 +71,5 @@ fn main() {
     reading::time();
     writing::time();
     measuring::time();
+    batches::time();
 }

@@ -3,6 +3,7 @@
 #![allow(dead_code)] // Each test file is its own crate and uses its own part.
 
 pub mod adding;
+pub mod batches;
 pub mod compare;
 pub mod measuring;
 pub mod packets;

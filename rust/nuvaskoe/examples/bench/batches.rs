@@ -1,0 +1,71 @@
+//! Effective loss and the resend plan of the longest trace.
+
+use super::{
+    print, race,
+    support::{
+        batches::{bursty_losses, loss_both, plan_into, random_losses, LONGEST},
+        Random,
+    },
+};
+use independent::{effective, resend};
+use std::hint::black_box;
+
+/// Batch lengths, and a threshold that batches of that length often pass and often do not.
+const SETTINGS: [(u32, u32); 3] = [(1, 0), (100, 5), (1_024, 52)];
+
+pub fn time() {
+    let mut random = Random::new("bench");
+    let traces = [
+        ("5 % lost", random_losses(&mut random, LONGEST, 5, 0)),
+        ("bursty", bursty_losses(&mut random, LONGEST)),
+        ("all lost", vec![1; LONGEST]),
+    ];
+    for (name, trace) in &traces {
+        for settings in SETTINGS {
+            time_plan(name, trace, settings);
+        }
+        time_longest_batch(name, trace);
+    }
+    for (name, trace) in &traces {
+        for settings in SETTINGS {
+            time_loss(name, trace, settings);
+        }
+    }
+}
+
+fn time_plan(name: &str, trace: &[u8], (batch, threshold): (u32, u32)) {
+    let (mut ours, mut theirs) = (vec![7; LONGEST], vec![7; LONGEST]);
+    let (answer, plan) = plan_into(trace, batch, threshold, &ours);
+    answer.expect("an accepted trace");
+    let (b, t) = (u64::from(batch), u64::from(threshold));
+    let times = race(
+        || nuvaskoe::resend::plan(black_box(trace), batch, threshold, black_box(&mut ours)),
+        || resend::plan(black_box(trace), b, t, black_box(&mut theirs)),
+    );
+    assert!(ours == plan && theirs == plan);
+    let name = format!("{name}, B {batch}, T {threshold}");
+    print(&name, LONGEST, "plan", times);
+}
+
+/// Ours with the longest batch beside ours with the shortest.
+fn time_longest_batch(name: &str, trace: &[u8]) {
+    let [shortest, _, longest] = SETTINGS;
+    let (mut first, mut second) = (vec![0; LONGEST], vec![0; LONGEST]);
+    let times = race(
+        || nuvaskoe::resend::plan(black_box(trace), longest.0, longest.1, &mut first),
+        || nuvaskoe::resend::plan(black_box(trace), shortest.0, shortest.1, &mut second),
+    );
+    let name = format!("{name}, B {} by B {}", longest.0, shortest.0);
+    print(&name, LONGEST, "plan", times);
+}
+
+fn time_loss(name: &str, trace: &[u8], (batch, threshold): (u32, u32)) {
+    loss_both(trace, batch, threshold).expect("an accepted trace");
+    let (b, t) = (u64::from(batch), u64::from(threshold));
+    let times = race(
+        || nuvaskoe::effective::effective_loss(black_box(trace), batch, threshold),
+        || effective::running_effective_loss(black_box(trace), b, t),
+    );
+    let name = format!("{name}, B {batch}, T {threshold}");
+    print(&name, LONGEST, "loss", times);
+}

@@ -1,0 +1,47 @@
+//! Effective loss: how many batches of a trace lose more than a threshold.
+//!
+//! A trace has one byte a packet: 0 received, 1 lost, 2 discarded, which is no loss. Batches
+//! are all runs of `batch` consecutive packets.
+
+use crate::{boundary, Refusal};
+
+/// How many batches of a trace are over the threshold.
+#[derive(Debug, Clone, Copy, PartialEq, Eq)]
+pub struct EffectiveLoss {
+    /// How many batches hold more losses than the threshold.
+    pub over: usize,
+    /// How many batches there are.
+    pub batches: usize,
+    /// The integer part of `over` × 65,535 / `batches`; 65,535 is full loss.
+    pub index: u16,
+    /// The first batch that is over, by the index of its first packet.
+    pub first: Option<usize>,
+}
+
+/// The effective loss of `trace`.
+///
+/// Refusals, in this order: 15, `batch` not 1 to 1,024 or `threshold` over 1,024; 10, a trace
+/// of none or over 65,536 packets; 9, a byte above 2, placed at the first; 14, a batch longer
+/// than the trace.
+///
+/// ```
+/// let loss = nuvaskoe::effective::effective_loss(&[0, 1, 1, 0, 1, 0, 1, 0, 0], 3, 1)?;
+/// assert_eq!((loss.over, loss.batches), (4, 7));
+/// assert_eq!((loss.index, loss.first), (37_448, Some(0)));
+/// # Ok::<(), nuvaskoe::Refusal>(())
+/// ```
+pub fn effective_loss(trace: &[u8], batch: u32, threshold: u32) -> Result<EffectiveLoss, Refusal> {
+    // SAFETY: a slice's pointer is never null and is good for reading its length.
+    let answer =
+        unsafe { boundary::nuvaskoe_effective_loss(trace.as_ptr(), trace.len(), batch, threshold) };
+    // What the header says of answers and no answer in Rust shows.
+    debug_assert!(answer.refusal.number == 0 || (answer.over, answer.batches) == (0, 0));
+    debug_assert!(answer.refusal.number == 0 || (answer.index, answer.found) == (0, 0));
+    debug_assert!(answer.found == 1 || (answer.found, answer.first) == (0, 0));
+    answer.refusal.unless_refused(EffectiveLoss {
+        over: answer.over,
+        batches: answer.batches,
+        index: u16::try_from(answer.index).expect("an index has 16 bits"),
+        first: (answer.found == 1).then_some(answer.first),
+    })
+}

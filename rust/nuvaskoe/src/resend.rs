@@ -1,0 +1,37 @@
+//! The resend plan: the fewest lost packets to resend so that no batch of a trace is left
+//! with more losses than a threshold.
+//!
+//! Traces and batches are those of [`effective`](crate::effective).
+
+use crate::{boundary, Refusal};
+
+/// Writes the smallest plan for `trace` into the front of `out` and answers how many packets
+/// it marks. It has one byte a packet, 1 for a lost packet to resend and 0 for any other; the
+/// bytes after it keep what they held.
+///
+/// Refusals, in this order: 15, 10, 9 and 14 as for
+/// [`effective_loss`](crate::effective::effective_loss), then 8, `out` is shorter than `trace`.
+///
+/// ```
+/// let mut out = [7; 10];
+/// let marks = nuvaskoe::resend::plan(&[0, 1, 1, 0, 1, 0, 1, 0, 0], 3, 1, &mut out)?;
+/// assert_eq!(marks, 2);
+/// assert_eq!(out, [0, 0, 1, 0, 0, 0, 1, 0, 0, 7]);
+/// # Ok::<(), nuvaskoe::Refusal>(())
+/// ```
+pub fn plan(trace: &[u8], batch: u32, threshold: u32, out: &mut [u8]) -> Result<usize, Refusal> {
+    // SAFETY: a slice's pointer is never null and is good for reading its length, and
+    // `out` lends all its length for writing.
+    let answer = unsafe {
+        boundary::nuvaskoe_resend_plan(
+            trace.as_ptr(),
+            trace.len(),
+            batch,
+            threshold,
+            out.as_mut_ptr(),
+            out.len(),
+        )
+    };
+    debug_assert!(answer.refusal.number == 0 || answer.marks == 0);
+    answer.refusal.unless_refused(answer.marks)
+}

@@ -1,0 +1,215 @@
+//! The library's effective loss beside the independent one.
+
+mod support;
+
+use nuvaskoe::effective::EffectiveLoss;
+use support::{
+    batches::{
+        all_settings, all_traces, bursty_losses, digits, loss_both, random_losses, random_settings,
+        random_trace, refusal, LONGEST, SETTINGS,
+    },
+    from_env, Random,
+};
+
+/// How many traces a test draws; `NUVASKOE_TRACES` overrides.
+const TRACES: usize = 500;
+
+/// An accepted answer, by its four parts.
+fn loss(over: usize, batches: usize, index: u16, first: Option<usize>) -> EffectiveLoss {
+    EffectiveLoss {
+        over,
+        batches,
+        index,
+        first,
+    }
+}
+
+/// P1, P3, P4 and P5 of document 01.
+#[test]
+fn sheet_of_examples() {
+    let answer = loss_both(&digits("011010100"), 3, 1);
+    assert_eq!(answer, Ok(loss(4, 7, 37_448, Some(0))));
+    let answer = loss_both(&digits("000"), 3, 0);
+    assert_eq!(answer, Ok(loss(0, 1, 0, None)));
+    let answer = loss_both(&digits("111"), 1, 0);
+    assert_eq!(answer, Ok(loss(3, 3, 65_535, Some(0))));
+    for packet in 0..=2 {
+        assert_eq!(loss_both(&[packet], 2, 0), Err((14, 0)));
+    }
+}
+
+/// As many losses as the threshold are not over it, and batches slide by one packet.
+#[test]
+fn traps() {
+    assert_eq!(loss_both(&digits("0110"), 4, 2), Ok(loss(0, 1, 0, None)));
+    assert_eq!(
+        loss_both(&digits("0110"), 2, 1),
+        Ok(loss(1, 3, 21_845, Some(1)))
+    );
+    // Discarded packets do not count.
+    assert_eq!(
+        loss_both(&digits("2212"), 2, 0),
+        Ok(loss(2, 3, 43_690, Some(1)))
+    );
+}
+
+fn compare_all(length: u32, kinds: usize) {
+    for trace in all_traces(length, kinds) {
+        for (batch, threshold) in all_settings(length) {
+            let answer = loss_both(&trace, batch, threshold).expect("an accepted trace");
+            assert_eq!(answer.batches, (length - batch + 1) as usize);
+            assert_eq!(answer.first.is_some(), answer.over > 0);
+            assert!(threshold < batch || answer.over == 0);
+        }
+        assert_eq!(loss_both(&trace, length + 1, 0), Err((14, 0)));
+    }
+}
+
+#[test]
+fn all_traces_of_three_kinds() {
+    for length in 1..=9 {
+        compare_all(length, 3);
+    }
+}
+
+#[test]
+fn all_traces_of_received_and_lost() {
+    for length in 10..=12 {
+        compare_all(length, 2);
+    }
+}
+
+#[test]
+fn random_traces() {
+    let mut random = Random::new("effective random_traces");
+    for _ in 0..from_env("NUVASKOE_TRACES", TRACES) {
+        let length = 1 + random.below(3_000);
+        let trace = random_trace(&mut random, length);
+        let (batch, threshold) = random_settings(&mut random, &trace);
+        assert!(loss_both(&trace, batch, threshold).is_ok());
+        let all = length.min(1_024) as u32;
+        for (batch, threshold) in [(1, 0), (1, 1), (all, 0), (batch, batch), (batch, 1_024)] {
+            assert!(loss_both(&trace, batch, threshold).is_ok());
+        }
+    }
+}
+
+/// One batch: the whole trace.
+#[test]
+fn batch_as_long_as_the_trace() {
+    let mut random = Random::new("effective batch_as_long_as_the_trace");
+    for length in (1..=40).chain([255, 256, 257, 1_022, 1_023, 1_024]) {
+        let trace = random_losses(&mut random, length, 50, 20);
+        let lost = trace.iter().filter(|packet| **packet == 1).count();
+        for threshold in lost.saturating_sub(2)..=(lost + 2).min(1_024) {
+            let expected = match threshold < lost {
+                true => loss(1, 1, 65_535, Some(0)),
+                false => loss(0, 1, 0, None),
+            };
+            let answer = loss_both(&trace, length as u32, threshold as u32);
+            assert_eq!(answer, Ok(expected), "{length}");
+        }
+        if length < 1_024 {
+            let longer = length as u32 + 1;
+            assert_eq!(loss_both(&trace, longer, 0), Err((14, 0)));
+        }
+    }
+}
+
+#[test]
+fn longest_trace() {
+    let lost = vec![1; LONGEST];
+    assert_eq!(
+        loss_both(&lost, 1, 0),
+        Ok(loss(65_536, 65_536, 65_535, Some(0)))
+    );
+    assert_eq!(
+        loss_both(&lost, 1_024, 1_023),
+        Ok(loss(64_513, 64_513, 65_535, Some(0)))
+    );
+    assert_eq!(loss_both(&lost, 1_024, 1_024), Ok(loss(0, 64_513, 0, None)));
+    // One loss, in the last batch alone.
+    let mut last = vec![2; LONGEST];
+    last[LONGEST - 1] = 1;
+    assert_eq!(loss_both(&last, 1, 0), Ok(loss(1, 65_536, 0, Some(65_535))));
+    assert_eq!(
+        loss_both(&last, 1_024, 0),
+        Ok(loss(1, 64_513, 1, Some(64_512)))
+    );
+    let mut random = Random::new("effective longest_trace");
+    for trace in [
+        random_losses(&mut random, LONGEST, 5, 5),
+        bursty_losses(&mut random, LONGEST),
+    ] {
+        for (batch, threshold) in [(1, 0), (2, 1), (100, 5), (100, 12), (1_024, 60)] {
+            assert!(loss_both(&trace, batch, threshold).is_ok());
+        }
+    }
+    for length in [LONGEST + 1, LONGEST + 2, 2 * LONGEST, 2 * LONGEST + 1] {
+        assert_eq!(loss_both(&vec![3; length], 1, 0), Err((10, 0)));
+    }
+}
+
+/// Every pair of settings in and out of range, on good, bad, empty and long traces.
+#[test]
+fn refusals_in_order() {
+    let mut random = Random::new("effective refusals_in_order");
+    for length in [0, 1, 2, 3, 1_022, 1_023, 1_024, 1_025, LONGEST + 1] {
+        for bad in [None, Some(0), Some(length / 2), length.checked_sub(1)] {
+            let mut trace = random_losses(&mut random, length, 30, 10);
+            if let Some(byte) = bad.and_then(|place| trace.get_mut(place)) {
+                *byte = 3;
+            }
+            for (batch, threshold) in pairs() {
+                let answer = loss_both(&trace, batch, threshold);
+                assert_eq!(answer.err(), refusal(&trace, batch, threshold, None));
+            }
+        }
+    }
+}
+
+fn pairs() -> impl Iterator<Item = (u32, u32)> {
+    SETTINGS.into_iter().flat_map(|batch| {
+        SETTINGS
+            .into_iter()
+            .map(move |threshold| (batch, threshold))
+    })
+}
+
+/// Every byte at every place, and the first of two; a bad byte comes before a long batch.
+#[test]
+fn bad_bytes() {
+    for length in 1..=40 {
+        for place in 0..length {
+            for byte in 3..=u8::MAX {
+                let mut trace = vec![byte % 3; length];
+                trace[place] = byte;
+                assert_eq!(loss_both(&trace, 1, 0), Err((9, place)));
+                assert_eq!(loss_both(&trace, 1_024, 0), Err((9, place)));
+                trace[length - 1] = 255 - byte / 2;
+                assert_eq!(loss_both(&trace, 1, 0), Err((9, place)));
+            }
+        }
+    }
+    for place in [0, 1, 7, 8, 65_527, 65_528, 65_534, 65_535] {
+        let mut trace = vec![1; LONGEST];
+        trace[place] = 3;
+        assert_eq!(loss_both(&trace, 1, 0), Err((9, place)));
+    }
+}
+
+/// A trace need not begin or end at a whole word.
+#[test]
+fn parts_of_a_buffer() {
+    let mut random = Random::new("effective parts_of_a_buffer");
+    let buffer = random_losses(&mut random, 64, 40, 20);
+    for start in 0..16 {
+        for end in start + 1..=buffer.len() {
+            let mut around = [255; 80];
+            around[start..end].copy_from_slice(&buffer[start..end]);
+            let batch = 1 + random.below(end - start) as u32;
+            let answer = loss_both(&around[start..end], batch, random.below(4) as u32);
+            assert!(answer.is_ok());
+        }
+    }
+}

@@ -1,0 +1,209 @@
+//! The library's effective loss and resend plan beside the independent ones, what holds of
+//! every answer, and traces.
+
+use super::{compare::Answer, pattern, Random};
+use independent::{effective, resend};
+use nuvaskoe::effective::EffectiveLoss;
+
+/// The most packets of a trace.
+pub const LONGEST: usize = 65_536;
+
+/// Batch lengths and thresholds around their limits, and such that fit fewer bits.
+pub const SETTINGS: [u32; 14] = [
+    0,
+    1,
+    2,
+    3,
+    1_023,
+    1_024,
+    1_025,
+    65_535,
+    65_536,
+    65_537,
+    66_560,
+    1 << 31,
+    (1 << 31) | 1,
+    u32::MAX,
+];
+
+/// The effective loss on which both agree, the independent one in its two forms.
+pub fn loss_both(trace: &[u8], batch: u32, threshold: u32) -> Answer<EffectiveLoss> {
+    let library = nuvaskoe::effective::effective_loss(trace, batch, threshold)
+        .map_err(|refusal| (refusal.number, refusal.place));
+    let (b, t) = (u64::from(batch), u64::from(threshold));
+    for independent in [
+        effective::effective_loss(trace, b, t),
+        effective::running_effective_loss(trace, b, t),
+    ] {
+        let independent = independent
+            .map(|loss| EffectiveLoss {
+                over: loss.over as usize,
+                batches: loss.batches as usize,
+                index: loss.index,
+                first: loss.first,
+            })
+            .map_err(|refusal| (refusal.number, refusal.place));
+        assert!(
+            library == independent,
+            "{library:?} and {independent:?}: {}",
+            shown(trace, batch, threshold)
+        );
+    }
+    library
+}
+
+/// Plans with both into equal buffers that hold `before`, and gives the answer and the buffer
+/// on which they agree. Bytes after the plan, and all where refused, keep what they held.
+pub fn plan_into(
+    trace: &[u8],
+    batch: u32,
+    threshold: u32,
+    before: &[u8],
+) -> (Answer<usize>, Vec<u8>) {
+    let (mut library_out, mut independent_out) = (before.to_vec(), before.to_vec());
+    let library = nuvaskoe::resend::plan(trace, batch, threshold, &mut library_out)
+        .map_err(|refusal| (refusal.number, refusal.place));
+    let (b, t) = (u64::from(batch), u64::from(threshold));
+    let independent = resend::plan(trace, b, t, &mut independent_out)
+        .map_err(|refusal| (refusal.number, refusal.place));
+    let shown = || shown(trace, batch, threshold);
+    assert!(library == independent, "{library:?}: {}", shown());
+    assert!(library_out == independent_out, "{}", shown());
+    let written = library.map_or(0, |_| trace.len());
+    assert!(library_out[written..] == before[written..], "{}", shown());
+    (library, library_out)
+}
+
+/// The same into a buffer of `length` bytes that hold a pattern.
+pub fn plan_both(
+    trace: &[u8],
+    batch: u32,
+    threshold: u32,
+    length: usize,
+) -> (Answer<usize>, Vec<u8>) {
+    plan_into(trace, batch, threshold, &pattern(length))
+}
+
+/// The plan of an accepted trace and the number of its marks, which leave no batch over.
+pub fn plan_lawfully(trace: &[u8], batch: u32, threshold: u32) -> (usize, Vec<u8>) {
+    let (answer, mut plan) = plan_both(trace, batch, threshold, trace.len() + 3);
+    plan.truncate(trace.len());
+    let marks = answer.expect("an accepted trace");
+    check_laws(trace, batch, threshold, marks, &plan);
+    (marks, plan)
+}
+
+/// The plan marks lost packets only, as many as the answer says, and the trace with them
+/// received has no batch over the threshold.
+fn check_laws(trace: &[u8], batch: u32, threshold: u32, marks: usize, plan: &[u8]) {
+    let shown = || shown(trace, batch, threshold);
+    let lost_only = |(packet, byte): (&u8, &u8)| *byte == 0 || (*byte == 1 && *packet == 1);
+    assert!(trace.iter().zip(plan).all(lost_only), "{}", shown());
+    let count = plan.iter().filter(|byte| **byte == 1).count();
+    assert_eq!(count, marks, "{}", shown());
+    let resent = trace.iter().zip(plan);
+    let resent: Vec<u8> = resent.map(|(packet, byte)| packet - byte).collect();
+    let left = nuvaskoe::effective::effective_loss(&resent, batch, threshold);
+    let left = left.expect("an accepted trace");
+    assert_eq!((left.over, left.first), (0, None), "{}", shown());
+}
+
+/// The first refusal in order; `room` is None for effective loss, which fills no buffer.
+pub fn refusal(
+    trace: &[u8],
+    batch: u32,
+    threshold: u32,
+    room: Option<usize>,
+) -> Option<(u32, usize)> {
+    if !(1..=1_024).contains(&batch) || threshold > 1_024 {
+        return Some((15, 0));
+    }
+    if trace.is_empty() || trace.len() > LONGEST {
+        return Some((10, 0));
+    }
+    if let Some(place) = trace.iter().position(|byte| *byte > 2) {
+        return Some((9, place));
+    }
+    if batch as usize > trace.len() {
+        return Some((14, 0));
+    }
+    (room? < trace.len()).then_some((8, 0))
+}
+
+/// A trace from its digits.
+pub fn digits(digits: &str) -> Vec<u8> {
+    digits.bytes().map(|digit| digit - b'0').collect()
+}
+
+/// Every trace of `length` packets whose bytes are below `kinds`.
+pub fn all_traces(length: u32, kinds: usize) -> impl Iterator<Item = Vec<u8>> {
+    (0..kinds.pow(length)).map(move |number| {
+        let digit = |place| (number / kinds.pow(place) % kinds) as u8;
+        (0..length).map(digit).collect()
+    })
+}
+
+/// Every batch length of a trace of `length` packets, with every threshold to one past it.
+pub fn all_settings(length: u32) -> impl Iterator<Item = (u32, u32)> {
+    (1..=length).flat_map(|batch| (0..=batch + 1).map(move |threshold| (batch, threshold)))
+}
+
+/// `length` packets, `lost` in 100 lost and `discarded` in 100 discarded.
+pub fn random_losses(random: &mut Random, length: usize, lost: usize, discarded: usize) -> Vec<u8> {
+    let mut packet = || match random.below(100) {
+        draw if draw < lost => 1,
+        draw if draw < lost + discarded => 2,
+        _ => 0,
+    };
+    (0..length).map(|_| packet()).collect()
+}
+
+/// `length` packets that come in runs of losses and longer runs of few losses.
+pub fn bursty_losses(random: &mut Random, length: usize) -> Vec<u8> {
+    let mut trace = Vec::with_capacity(length + 400);
+    while trace.len() < length {
+        let (calm, burst) = (random.below(400), random.below(40));
+        trace.extend(random_losses(random, calm, 1, 2));
+        trace.extend(random_losses(random, burst, 80, 5));
+    }
+    trace.truncate(length);
+    trace
+}
+
+/// A trace of one of several makes.
+pub fn random_trace(random: &mut Random, length: usize) -> Vec<u8> {
+    match random.below(6) {
+        0 => random_losses(random, length, 5, 5),
+        1 => random_losses(random, length, 33, 33),
+        2 => random_losses(random, length, 95, 2),
+        3 => random_losses(random, length, 0, 50),
+        _ => bursty_losses(random, length),
+    }
+}
+
+/// A batch no longer than the trace, and a threshold near the losses that a batch holds.
+pub fn random_settings(random: &mut Random, trace: &[u8]) -> (u32, u32) {
+    let most = trace.len().min(1_024);
+    let batch = match random.below(4) {
+        0 => 1 + random.below(most.min(12)),
+        1 => most,
+        _ => 1 + random.below(most),
+    };
+    let losses = trace[..batch].iter().filter(|packet| **packet == 1).count();
+    let threshold = match random.below(5) {
+        0 => random.below(4),
+        1 => random.below(1_025),
+        2 => random.below(losses + 1),
+        _ => (losses + random.below(9)).saturating_sub(4).min(1_024),
+    };
+    (batch as u32, threshold as u32)
+}
+
+fn shown(trace: &[u8], batch: u32, threshold: u32) -> String {
+    let front: Vec<_> = trace.iter().take(100).map(u8::to_string).collect();
+    let packets = trace.len();
+    format!(
+        "B {batch}, T {threshold}, {packets} packets {}",
+        front.join(" ")
+    )
+}
