@@ -30,6 +30,7 @@ pub fn judge(packet: &[u8]) -> Result<Packet, Refusal> {
 }
 
 /// The sender and the number of blocks.
+#[inline]
 pub fn read(packet: &[u8]) -> Result<(u32, usize), Refusal> {
     let sender = sender(packet)?;
     let mut count = 0;
