@@ -1,7 +1,7 @@
 -- `lines::put_block` meets its contract. Assumes nothing.
 use mathlib.Core.Path.{sym, ap}
 use borrow.Author.Needs.{needs}
-use Rattle.text.proofs.Joined.{joined, same-text}
+use Rattle.text.proofs.Joined.{joined, same-text, keeps-length}
 use Rattle.lines.specs.Lines.{blockLine}
 use Rattle.lines.proofs.put_block.Statement.{statement}
 use Rattle.lines.proofs.put_block.Tie as tie
@@ -66,18 +66,17 @@ slice-aggregate-put-3 c = search needs
 put-requires-3 : tie.Need-put-requires-3
 put-requires-3 c κs = search needs
 
-same-length : tie.Need-same-length
-same-length c = search needs
-
 returns : tie.Need-returns
 returns c =
     same-text _ _ _ _ _ _ (ap (blockLine _ _ _) (sym (c .before .before .before .before .before .before .before .before .before .before .read .given .1)))
     (joined _ _ _ _ _ _ _ _
     (joined _ _ _ _ _ _ _ _
-    (c .before .before .before .before .before .before .before .before .before .before .before .before .before .before .put-decimal .ensures) (c .before .before .before .before .before .before .before .put-typed .ensures)) (c .before .before .put .ensures))
+    (c .before .before .before .before .before .before .before .before .before .before .before .before .before .before .put-decimal .ensures)
+    (c .before .before .before .before .before .before .before .put-typed .ensures))
+    (c .before .before .put .ensures))
 
-same-length-2 : tie.Need-same-length-2
-same-length-2 c = search needs
+same-length : tie.Need-same-length
+same-length c = keeps-length _ _ _ _ _ (returns c)
 
 returns-2 : tie.Need-returns-2
 returns-2 c =
@@ -85,10 +84,13 @@ returns-2 c =
     (joined _ _ _ _ _ _ _ _
     (joined _ _ _ _ _ _ _ _
     (joined _ _ _ _ _ _ _ _
-    (c .before .before .before .before .before .before .before .before .before .before .before .before .before .before .before .before .before .before .before .put-decimal .ensures) (c .before .before .before .before .before .before .before .before .before .before .before .before .put-number .ensures)) (c .before .before .before .before .before .before .before .put-number2 .ensures)) (c .before .before .put2 .ensures))
+    (c .before .before .before .before .before .before .before .before .before .before .before .before .before .before .before .before .before .before .before .put-decimal .ensures)
+    (c .before .before .before .before .before .before .before .before .before .before .before .before .put-number .ensures))
+    (c .before .before .before .before .before .before .before .put-number2 .ensures))
+    (c .before .before .put2 .ensures))
 
-same-length-3 : tie.Need-same-length-3
-same-length-3 c = search needs
+same-length-2 : tie.Need-same-length-2
+same-length-2 c = keeps-length _ _ _ _ _ (returns-2 c)
 
 returns-3 : tie.Need-returns-3
 returns-3 c =
@@ -96,7 +98,13 @@ returns-3 c =
     (joined _ _ _ _ _ _ _ _
     (joined _ _ _ _ _ _ _ _
     (joined _ _ _ _ _ _ _ _
-    (c .before .before .before .before .before .before .before .before .before .before .before .before .before .before .before .before .before .before .before .before .put-decimal .ensures) (c .before .before .before .before .before .before .before .before .before .before .before .before .put-number3 .ensures)) (c .before .before .before .before .before .before .before .put-number4 .ensures)) (c .before .before .put3 .ensures))
+    (c .before .before .before .before .before .before .before .before .before .before .before .before .before .before .before .before .before .before .before .before .put-decimal .ensures)
+    (c .before .before .before .before .before .before .before .before .before .before .before .before .put-number3 .ensures))
+    (c .before .before .before .before .before .before .before .put-number4 .ensures))
+    (c .before .before .put3 .ensures))
+
+same-length-3 : tie.Need-same-length-3
+same-length-3 c = keeps-length _ _ _ _ _ (returns-3 c)
 
 pub put-block-spec : {M : Type 1} → statement M
 put-block-spec =

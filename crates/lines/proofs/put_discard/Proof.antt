@@ -1,6 +1,6 @@
 -- `lines::put_discard` meets its contract. Assumes nothing.
 use borrow.Author.Needs.{needs}
-use Rattle.text.proofs.Joined.{joined}
+use Rattle.text.proofs.Joined.{joined, keeps-length}
 use Rattle.lines.specs.Lines.{discardText}
 use Rattle.lines.proofs.put_discard.Statement.{statement}
 use Rattle.lines.proofs.put_discard.Tie as tie
@@ -32,16 +32,19 @@ slice-aggregate-put-figure-2 c = search needs
 put-figure-requires-2 : tie.Need-put-figure-requires-2
 put-figure-requires-2 c κs = search needs
 
-same-length : tie.Need-same-length
-same-length c = search needs
-
 returns : tie.Need-returns
 unfolding discardText
 returns c =
     joined _ _ _ _ _ _ _ _
     (joined _ _ _ _ _ _ _ _
     (joined _ _ _ _ _ _ _ _
-    (c .before .before .before .before .before .before .before .before .before .before .before .before .before .before .before .before .before .before .put-source .ensures) (c .before .before .before .before .before .before .before .before .before .before .before .before .put-number .ensures)) (c .before .before .before .before .before .before .before .put-figure .ensures)) (c .before .before .put-figure2 .ensures)
+    (c .before .before .before .before .before .before .before .before .before .before .before .before .before .before .before .before .before .before .put-source .ensures)
+    (c .before .before .before .before .before .before .before .before .before .before .before .before .put-number .ensures))
+    (c .before .before .before .before .before .before .before .put-figure .ensures))
+    (c .before .before .put-figure2 .ensures)
+
+same-length : tie.Need-same-length
+same-length c = keeps-length _ _ _ _ _ (returns c)
 
 pub put-discard-spec : {M : Type 1} → statement M
 put-discard-spec =

@@ -1,6 +1,6 @@
 -- `lines::put_effective` meets its contract. Assumes nothing.
 use borrow.Author.Needs.{needs}
-use Rattle.text.proofs.Joined.{joined}
+use Rattle.text.proofs.Joined.{joined, keeps-length}
 use Rattle.lines.specs.Lines.{effectiveText}
 use Rattle.lines.proofs.put_effective.Statement.{statement}
 use Rattle.lines.proofs.put_effective.Tie as tie
@@ -20,14 +20,15 @@ cast-put-number c = search needs
 put-number-requires : tie.Need-put-number-requires
 put-number-requires c κs = search needs
 
-same-length : tie.Need-same-length
-same-length c = search needs
-
 returns : tie.Need-returns
 unfolding effectiveText
 returns c =
     joined _ _ _ _ _ _ _ _
-    (c .before .before .before .before .before .before .before .before .put-source .ensures) (c .before .before .put-number .ensures)
+    (c .before .before .before .before .before .before .before .before .put-source .ensures)
+    (c .before .before .put-number .ensures)
+
+same-length : tie.Need-same-length
+same-length c = keeps-length _ _ _ _ _ (returns c)
 
 pub put-effective-spec : {M : Type 1} → statement M
 put-effective-spec =

@@ -1,6 +1,6 @@
 -- `lines::put_loss` meets its contract. Assumes nothing.
 use borrow.Author.Needs.{needs}
-use Rattle.text.proofs.Joined.{joined}
+use Rattle.text.proofs.Joined.{joined, keeps-length}
 use Rattle.lines.specs.Lines.{lossText}
 use Rattle.lines.proofs.put_loss.Statement.{statement}
 use Rattle.lines.proofs.put_loss.Tie as tie
@@ -44,9 +44,6 @@ slice-aggregate-put-figure-4 c = search needs
 put-figure-requires-4 : tie.Need-put-figure-requires-4
 put-figure-requires-4 c κs = search needs
 
-same-length : tie.Need-same-length
-same-length c = search needs
-
 returns : tie.Need-returns
 unfolding lossText
 returns c =
@@ -55,7 +52,15 @@ returns c =
     (joined _ _ _ _ _ _ _ _
     (joined _ _ _ _ _ _ _ _
     (joined _ _ _ _ _ _ _ _
-    (c .before .before .before .before .before .before .before .before .before .before .before .before .before .before .before .before .before .before .before .before .before .before .before .before .before .before .before .before .put-source .ensures) (c .before .before .before .before .before .before .before .before .before .before .before .before .before .before .before .before .before .before .before .before .before .before .put-number .ensures)) (c .before .before .before .before .before .before .before .before .before .before .before .before .before .before .before .before .before .put-figure .ensures)) (c .before .before .before .before .before .before .before .before .before .before .before .before .put-figure2 .ensures)) (c .before .before .before .before .before .before .before .put-figure3 .ensures)) (c .before .before .put-figure4 .ensures)
+    (c .before .before .before .before .before .before .before .before .before .before .before .before .before .before .before .before .before .before .before .before .before .before .before .before .before .before .before .before .put-source .ensures)
+    (c .before .before .before .before .before .before .before .before .before .before .before .before .before .before .before .before .before .before .before .before .before .before .put-number .ensures))
+    (c .before .before .before .before .before .before .before .before .before .before .before .before .before .before .before .before .before .put-figure .ensures))
+    (c .before .before .before .before .before .before .before .before .before .before .before .before .put-figure2 .ensures))
+    (c .before .before .before .before .before .before .before .put-figure3 .ensures))
+    (c .before .before .put-figure4 .ensures)
+
+same-length : tie.Need-same-length
+same-length c = keeps-length _ _ _ _ _ (returns c)
 
 pub put-loss-spec : {M : Type 1} → statement M
 put-loss-spec =

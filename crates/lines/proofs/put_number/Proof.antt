@@ -1,6 +1,6 @@
 -- `lines::put_number` meets its contract. Assumes nothing.
 use borrow.Author.Needs.{needs}
-use Rattle.text.proofs.Joined.{joined}
+use Rattle.text.proofs.Joined.{joined, keeps-length}
 use Rattle.lines.specs.Lines.{number}
 use Rattle.lines.proofs.put_number.Statement.{statement}
 use Rattle.lines.proofs.put_number.Tie as tie
@@ -11,14 +11,15 @@ put-requires c κs = search needs
 put-decimal-requires : tie.Need-put-decimal-requires
 put-decimal-requires c κs = search needs
 
-same-length : tie.Need-same-length
-same-length c = search needs
-
 returns : tie.Need-returns
 unfolding number
 returns c =
     joined _ _ _ _ _ _ _ _
-    (c .before .before .before .before .before .before .put .ensures) (c .before .before .put-decimal .ensures)
+    (c .before .before .before .before .before .before .put .ensures)
+    (c .before .before .put-decimal .ensures)
+
+same-length : tie.Need-same-length
+same-length c = keeps-length _ _ _ _ _ (returns c)
 
 pub put-number-spec : {M : Type 1} → statement M
 put-number-spec = tie.close (tie.spec put-requires put-decimal-requires same-length returns)

@@ -1,6 +1,6 @@
 -- `lines::put_source` meets its contract. Assumes nothing.
 use borrow.Author.Needs.{needs}
-use Rattle.text.proofs.Joined.{joined}
+use Rattle.text.proofs.Joined.{joined, keeps-length}
 use Rattle.lines.specs.Lines.{source}
 use Rattle.lines.proofs.put_source.Statement.{statement}
 use Rattle.lines.proofs.put_source.Tie as tie
@@ -11,14 +11,15 @@ put-requires c κs = search needs
 put-hex-requires : tie.Need-put-hex-requires
 put-hex-requires c κs = search needs
 
-same-length : tie.Need-same-length
-same-length c = search needs
-
 returns : tie.Need-returns
 unfolding source
 returns c =
     joined _ _ _ _ _ _ _ _
-    (c .before .before .before .before .before .before .put .ensures) (c .before .before .put-hex .ensures)
+    (c .before .before .before .before .before .before .put .ensures)
+    (c .before .before .put-hex .ensures)
+
+same-length : tie.Need-same-length
+same-length c = keeps-length _ _ _ _ _ (returns c)
 
 pub put-source-spec : {M : Type 1} → statement M
 put-source-spec = tie.close (tie.spec put-requires put-hex-requires same-length returns)
