@@ -41,27 +41,78 @@ module _ (label : List ℕ) (w : ℕ) (is : length label ≡ w) (n : ℕ) where
 
 measurement-most : (m : Measurement) → length (measurementText m) ≤ 400
 unfolding measurementText
-measurement-most m = simp length-append (omega (arith, source-most words.measSource 13 refl (m .source), number-most words.first 7 refl (m .first), number-most words.efirst 8 refl (m .«extended_first»), number-most words.elast 7 refl (m .«extended_last»), number-most words.interval 10 refl (m .interval), number-most words.seconds 9 refl (m .seconds), number-most words.fraction 10 refl (m .fraction)))
+measurement-most m =
+    simp length-append (omega (
+      arith,
+      source-most words.measSource 13 refl (m .source),
+      number-most words.first 7 refl (m .first),
+      number-most words.efirst 8 refl (m .«extended_first»),
+      number-most words.elast 7 refl (m .«extended_last»),
+      number-most words.interval 10 refl (m .interval),
+      number-most words.seconds 9 refl (m .seconds),
+      number-most words.fraction 10 refl (m .fraction),
+    ))
 
 loss-most : (l : LossSummary) → length (lossText l) ≤ 400
 unfolding lossText
-loss-most l = simp length-append (omega (arith, source-most words.lossSource 13 refl (l .source), number-most words.flag 3 refl (l .flag), figure-most words.burst 7 refl (l .«burst_rate»), figure-most words.gap 5 refl (l .«gap_rate»), figure-most words.mean 6 refl (l .«burst_mean»), figure-most words.variance 5 refl (l .«burst_variance»)))
+loss-most l =
+    simp length-append (omega (
+      arith,
+      source-most words.lossSource 13 refl (l .source),
+      number-most words.flag 3 refl (l .flag),
+      figure-most words.burst 7 refl (l .«burst_rate»),
+      figure-most words.gap 5 refl (l .«gap_rate»),
+      figure-most words.mean 6 refl (l .«burst_mean»),
+      figure-most words.variance 5 refl (l .«burst_variance»),
+    ))
 
 discard-most : (d : DiscardSummary) → length (discardText d) ≤ 400
 unfolding discardText
-discard-most d = simp length-append (omega (arith, source-most words.discardSource 16 refl (d .source), number-most words.flag 3 refl (d .flag), figure-most words.burst 7 refl (d .«burst_rate»), figure-most words.gap 5 refl (d .«gap_rate»)))
+discard-most d =
+    simp length-append (omega (
+      arith,
+      source-most words.discardSource 16 refl (d .source),
+      number-most words.flag 3 refl (d .flag),
+      figure-most words.burst 7 refl (d .«burst_rate»),
+      figure-most words.gap 5 refl (d .«gap_rate»),
+    ))
 
 effective-most : (e : EffectiveLoss) → length (effectiveText e) ≤ 400
 unfolding effectiveText
-effective-most e = simp length-append (omega (arith, source-most words.eliSource 12 refl (e .source), number-most words.index 7 refl (e .index)))
+effective-most e =
+    simp length-append (omega (
+      arith,
+      source-most words.eliSource 12 refl (e .source),
+      number-most words.index 7 refl (e .index),
+    ))
 
 counts-most : (t : StreamCounts) → length (countsText t) ≤ 168
 unfolding countsText
-counts-most t = simp length-append (omega (arith, number-most words.space 1 refl (t .«sync_losses»), number-most words.space 1 refl (t .«sync_byte_errors»), number-most words.space 1 refl (t .«continuity_errors»), number-most words.space 1 refl (t .«transport_errors»), number-most words.space 1 refl (t .«pcr_errors»), number-most words.space 1 refl (t .«pcr_repetition_errors»), number-most words.space 1 refl (t .«pcr_discontinuity_errors»), number-most words.space 1 refl (t .«pts_errors»)))
+counts-most t =
+    simp length-append (omega (
+      arith,
+      number-most words.space 1 refl (t .«sync_losses»),
+      number-most words.space 1 refl (t .«sync_byte_errors»),
+      number-most words.space 1 refl (t .«continuity_errors»),
+      number-most words.space 1 refl (t .«transport_errors»),
+      number-most words.space 1 refl (t .«pcr_errors»),
+      number-most words.space 1 refl (t .«pcr_repetition_errors»),
+      number-most words.space 1 refl (t .«pcr_discontinuity_errors»),
+      number-most words.space 1 refl (t .«pts_errors»),
+    ))
 
 streams-most : (t : StreamCounts) → length (streamsText t) ≤ 400
 unfolding streamsText
-streams-most t = simp length-append (omega (arith, source-most words.tsSource 11 refl (t .source), number-most words.begin 7 refl (t .begin), number-most words.end 5 refl (t .end), number-most words.packets 9 refl (covered (t .begin) (t .end)), number-most words.streams 9 refl (t .streams), counts-most t))
+streams-most t =
+    simp length-append (omega (
+      arith,
+      source-most words.tsSource 11 refl (t .source),
+      number-most words.begin 7 refl (t .begin),
+      number-most words.end 5 refl (t .end),
+      number-most words.packets 9 refl (covered (t .begin) (t .end)),
+      number-most words.streams 9 refl (t .streams),
+      counts-most t,
+    ))
 
 typed-most : (b : Block) → length (typedText b) ≤ 400
 typed-most (Measured m) = measurement-most m
@@ -73,9 +124,19 @@ typed-most (Streams t) = streams-most t
 pub block-fits : Block-fits
 block-fits k kind size (Typed b) = simp length-append (omega (arith, length-decimal decimalMost k, typed-most b))
 block-fits k kind size Unknown =
-    simp length-append (omega (arith, length-decimal decimalMost k, number-most words.unknownType 14 refl kind, number-most words.bytes 7 refl size))
+    simp length-append (omega (
+      arith,
+      length-decimal decimalMost k,
+      number-most words.unknownType 14 refl kind,
+      number-most words.bytes 7 refl size,
+    ))
 block-fits k kind size (Dropped d) =
-    simp length-append (omega (arith, length-decimal decimalMost k, number-most words.droppedType 14 refl kind, number-most words.reason 8 refl d))
+    simp length-append (omega (
+      arith,
+      length-decimal decimalMost k,
+      number-most words.droppedType 14 refl kind,
+      number-most words.reason 8 refl d,
+    ))
 
 pub head-fits : Head-fits
 head-fits sender count = simp length-append (omega (arith, source-most words.ssrc 5 refl sender, number-most words.blocks 8 refl count))

@@ -14,17 +14,20 @@ ghost use Rattle.survey.specs.Survey.{verdictOf};
 ghost use Rattle.lines.specs.Lines.{lineRoom};
 ghost use Rattle.listing.specs.Room.{Listed, judgedBy, lineAt, Added};
 
+// The longest input, in bytes; the buffer has room for one more.
+const MOST: usize = 65_536;
+
 fn main() {
     let mut buffer = [0u8; 65_537];
     let n = io::read_full(0, &mut buffer);
-    if 65_536 < n {
+    if MOST < n {
         io::write_all(STDOUT_FILENO, b"too long\n");
         return;
     }
     list(&buffer[..n]);
 }
 
-// A packet of 65,536 bytes has at most 16,382 blocks, two numbers each in the table.
+// A packet of MOST bytes has at most 16,382 blocks, two numbers each in the table.
 fn list(packet: &[u8]) {
     let mut table = [0u32; 32_768];
     let mut page = [0u8; 65_536];

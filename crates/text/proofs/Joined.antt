@@ -39,7 +39,9 @@ glue : (p : List ℕ) (at n m k : ℕ) (a b : List ℕ) → at ≤ length p → 
 glue p at n m k a b inside whole texts-are sum =
     let e : at + n + m ≡ at + k = omega arith in
     let front = take-paste p at a n inside whole in
-    let back : drop (at + n + m) (paste p at a n) ≡ drop (at + k) p = sym (drop-drop m (at + n) (paste p at a n)) ∙ ap (drop m) (drop-paste p at a n inside whole) ∙ drop-drop m (at + n) p ∙ ap (λ (x : ℕ). drop x p) e in
+    let back : drop (at + n + m) (paste p at a n) ≡ drop (at + k) p
+    = sym (drop-drop m (at + n) (paste p at a n)) ∙ ap (drop m) (drop-paste p at a n inside whole)
+    ∙ drop-drop m (at + n) p ∙ ap (λ (x : ℕ). drop x p) e in
     ap (λ (l : List ℕ). l ++ take m b ++ drop (at + n + m) (paste p at a n)) front
     ∙ ap (λ (l : List ℕ). take at p ++ take n a ++ take m b ++ l) back
     ∙ ap (λ (l : List ℕ). l ++ drop (at + k) p) (append-assoc (take at p) (take n a) (take m b) ∙ ap (λ (l : List ℕ). take at p ++ l) texts-are)
@@ -55,7 +57,8 @@ module _ (page : List ℕ) (at : ℕ) (a b : List ℕ) where
       let em2 : m ≡ min (length b) (length page - at - n) = em ∙ ap (min (length b)) (left (length page) (length q) at n e long ee) in
       let ek2 : k ≡ min (length a + length b) (length page - at) = ek ∙ ap (λ (x : ℕ). min x (length page - at)) (length-append a b) in
       rw (ee, is)
-      (glue page at n m k a b h (rw en (min-le-left (length a) (length page - at))) (texts a b (length page - at) n m k en em2 ek2) (sums (length a) (length b) (length page - at) n m k en em2 ek2))
+      (glue page at n m k a b h (rw en (min-le-left (length a) (length page - at))) (texts a b (length page - at) n m k en em2 ek2)
+      (sums (length a) (length b) (length page - at) n m k en em2 ek2))
 
   inside-joined : at ≤ length page → placed (placed page at a) (endAt page at a) b ≡ placed page at (a ++ b)
   unfolding placed endAt
