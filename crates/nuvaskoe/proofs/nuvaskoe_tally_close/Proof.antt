@@ -18,7 +18,6 @@ close-requires c κs = search needs
 figures-out-requires : tie.Need-figures-out-requires
 figures-out-requires c κs = search needs
 
--- /work/main/target/rlib/refusal.rlib/interface/lang/src/lib.rt:17:31
 enum-told : tie.Need-enum-told
 enum-told c = search needs
 

@@ -18,7 +18,6 @@ open-requires c κs = search needs
 opened-out-requires : tie.Need-opened-out-requires
 opened-out-requires c κs = search needs
 
--- /work/main/target/rlib/refusal.rlib/interface/lang/src/lib.rt:17:31
 enum-told : tie.Need-enum-told
 enum-told c = search needs
 

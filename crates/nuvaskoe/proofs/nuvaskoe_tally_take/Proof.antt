@@ -18,7 +18,6 @@ take-requires c κs = search needs
 taken-out-requires : tie.Need-taken-out-requires
 taken-out-requires c κs = search needs
 
--- /work/main/target/rlib/refusal.rlib/interface/lang/src/lib.rt:17:31
 enum-told : tie.Need-enum-told
 enum-told c = search needs
 

@@ -25,7 +25,6 @@ open-requires c κs = search needs
 enum-known-first : tie.Need-enum-known-first Inv-loop μ-loop
 enum-known-first c = search needs
 
--- /work/tally-tree/target/rlib/refusal.rlib/interface/lang/src/lib.rt:17:31
 enum-told : tie.Need-enum-told Inv-loop μ-loop
 enum-told c = search needs
 
