@@ -7,9 +7,10 @@ use trace::Judged;
 use trace::counts;
 ghost use mathlib.Core.Path.{_≡_};
 ghost use mathlib.Core.List.{_++_};
-ghost use Prim.Native.Nat.{_-_, _<_, _≤_};
-ghost use lib.ListN.{length, drop};
+ghost use Prim.Native.Nat.{_-_, _<_, _≤_, min};
+ghost use lib.ListN.{length, getD, drop};
 ghost use Rattle.trace.specs.declared.Event.the-variants.{Lost};
+ghost use Rattle.trace.specs.Sum.{bit};
 ghost use Rattle.trace.specs.Trace.{countedIn};
 ghost use Rattle.resend.specs.Plans.{marks};
 ghost use Rattle.resend.specs.Greedy.{leaving};
@@ -20,9 +21,6 @@ pub enum Planned {
     Marks(usize),
     Refused(Refusal),
 }
-
-// A plan's byte for a packet to resend.
-const MARK: u8 = 1;
 
 // Writes the plan of a trace into the front of out.
 pub fn plan(trace: &[u8], batch: u32, threshold: u32, out: &mut [u8]) -> Planned
@@ -53,15 +51,14 @@ fn fill(event: Event, s: &[u8], batch: usize, threshold: usize, out: &mut [u8]) 
     while i < s.len() {
         let at = i;
         i += 1;
-        left = slide(event, s, out, batch, at, left);
-        if !counts(event, s[at]) {
-            out[at] = 0;
-        } else if left < threshold {
-            out[at] = 0;
-            left += 1;
+        let before = slide(event, s, out, batch, at, left);
+        if counts(event, s[at]) {
+            left = least(before + 1, threshold);
+            out[at] = (before + 1 - left) as u8;
+            marks += before + 1 - left;
         } else {
-            out[at] = MARK;
-            marks += 1;
+            left = before;
+            out[at] = 0;
         }
     }
     marks
@@ -69,15 +66,18 @@ fn fill(event: Event, s: &[u8], batch: usize, threshold: usize, out: &mut [u8]) 
 
 // The running count without the packet that stands `batch` before packet i.
 fn slide(event: Event, s: &[u8], plan: &[u8], batch: usize, i: usize, left: usize) -> usize
-    requires { ⌜ (1 ≤ batch) × (i < length (now s)) × (i < length (now plan)) × (leaving (countedIn event (now s)) batch (now plan) i ≤ left) ⌝ }
+    requires { ⌜ (1 ≤ batch) × (i < length (now s)) × (i < length (now plan)) × (leaving (countedIn event (now s)) batch (now plan) i ≤ left) × (batch ≤ i → getD (now plan) (i - batch) 0 ≤ bit (countedIn event (now s) (i - batch))) ⌝ }
     ensures { λ r. ⌜ r ≡ left - leaving (countedIn event (now (s .entry))) batch (now (plan .entry)) i ⌝ }
 {
     if i < batch {
         return left;
     }
     let at = i - batch;
-    if counts(event, s[at]) & (plan[at] != MARK) {
-        return left - 1;
-    }
-    left
+    left - (counts(event, s[at]) as usize - plan[at] as usize)
+}
+
+fn least(a: usize, b: usize) -> usize
+    ensures { λ r. ⌜ r ≡ min a b ⌝ }
+{
+    if a < b { a } else { b }
 }

@@ -1,14 +1,19 @@
--- `resend::slide` meets its contract. Each return is one of the cases of what leaves the window. Assumes nothing.
+-- `resend::slide` meets its contract: what leaves the window is nothing, or one packet less its mark. Assumes
+-- nothing.
+use Prim.Native.Nat.{_-_, _≤_}
 use mathlib.Core.Path.{_≡_}
+use native.Mathlib.Omega.{arith}
+use mir.Val.{boolByte}
+use lib.ListN.{getD}
 use Rattle.trace.specs.Trace.{countedIn}
 use Rattle.resend.specs.Greedy.{leaving}
-use Rattle.resend.proofs.Filling.{leaves-none, leaves-one, leaves-other, slides-none, slides-one, slides-some}
+use Rattle.resend.proofs.Filling.{byte-bit, byte-le, leaves-less, slides-none}
 use borrow.Author.Needs.{needs}
 use Rattle.resend.proofs.slide.Statement.{statement}
 use Rattle.resend.proofs.slide.Tie as tie
 
 returns : tie.Need-returns
-returns c = slides-none _ _ _ _ _ (leaves-none _ _ _ _ (c .if1 .taken))
+returns c = slides-none _ _ _ _ _ (c .if1 .taken)
 
 shared-slice-read-counts : tie.Need-shared-slice-read-counts
 shared-slice-read-counts c = search needs
@@ -16,24 +21,36 @@ shared-slice-read-counts c = search needs
 counts-requires : tie.Need-counts-requires
 counts-requires c κs = search needs
 
-shared-slice-read-if2 : tie.Need-shared-slice-read-if2
-shared-slice-read-if2 c = search needs
+cast-result : tie.Need-cast-result
+cast-result c = search needs
 
--- where both tests pass, one leaves
-leaves : (c : tie.Then2) →
-    let a = c .before .before .before .before .before .before .before .args in
-    leaving (countedIn (a .event) (a .s .now)) (a .batch) (a .plan .now) (a .i) ≡ 1
-leaves c = leaves-one _ _ _ _ (c .before .before .before .before .if1 .left) (rw (← c .before .before .counts .ensures) (c .if2 .taken))
+shared-slice-read-result : tie.Need-shared-slice-read-result
+shared-slice-read-result c = search needs
+
+-- the mark is at most the packet's bit, and the packet leaves as the difference of the two
+mark-le : (c : tie.After-counts) →
+    let a = c .before .before .before .before .before .args in
+    getD (a .plan .now) (a .i - a .batch) 0 ≤ boolByte (c .counts .result)
+mark-le c = rw (c .counts .ensures, byte-bit _) (c .before .before .before .before .before .pre .4 (c .before .before .if1 .left))
+
+leaves : (c : tie.After-counts) →
+    let a = c .before .before .before .before .before .args in
+    leaving (countedIn (a .event) (a .s .now)) (a .batch) (a .plan .now) (a .i) ≡ boolByte (c .counts .result) - getD (a .plan .now) (a .i - a .batch) 0
+leaves c =
+    rw (c .counts .ensures)
+    (leaves-less _ _ _ _ (c .before .before .if1 .left) (c .before .before .before .before .before .pre .4 (c .before .before .if1 .left)))
+
+cast-result-2 : tie.Need-cast-result-2
+cast-result-2 c = omega (arith, mark-le (c .before), byte-le (c .before .counts .result))
 
 sub-result : tie.Need-sub-result
-sub-result c = slides-some _ _ _ _ _ (leaves c) (c .before .before .before .before .before .before .before .pre .3)
+sub-result c = mark-le (c .before)
+
+sub-result-2 : tie.Need-sub-result-2
+sub-result-2 c = rw (← leaves (c .before)) (c .before .before .before .before .before .before .pre .3)
 
 returns-2 : tie.Need-returns-2
-returns-2 c = slides-one _ _ _ _ _ (leaves c)
-
-returns-3 : tie.Need-returns-3
-returns-3 c =
-    slides-none _ _ _ _ _ (leaves-other _ _ _ _ (c .before .before .before .before .if1 .left) (rw (← c .before .before .counts .ensures) (c .if2 .left)))
+returns-2 c = rw (leaves (c .before))
 
 pub slide-spec : {M : Type 1} → statement M
 slide-spec =
@@ -42,7 +59,9 @@ slide-spec =
     returns
     shared-slice-read-counts
     counts-requires
-    shared-slice-read-if2
+    cast-result
+    shared-slice-read-result
+    cast-result-2
     sub-result
-    returns-2
-    returns-3)
+    sub-result-2
+    returns-2)
