@@ -108,4 +108,4 @@ module _ (sender : ℕ) (es : List Entry) (e : Entry) (k : ℕ) (r : Here es e k
 pub earlier-kept : Earlier-kept
 earlier-kept sender es e k h =
     let r = here es e k h in
-    (λ i. record { start = same-start es e k h i; length = length (same-body es e k h i) }, kept-at sender es e k r (kept es e (own sender es e k r)))
+    (λ i. record { start = same-start es e k h i; length = length (same-body es e k h i) }, same-body es e k h, kept-at sender es e k r (kept es e (own sender es e k r)))

@@ -18,7 +18,7 @@ use Rattle.encode.specs.Laws.{Word, Fits}
 use Rattle.frame.specs.Frames.{Entry}
 use Rattle.frame.specs.Packet.{good, packetOf}
 use Rattle.packet.specs.Blocks.{measures, judged}
-use Rattle.packet.specs.Answers.{blockOf, partOf}
+use Rattle.packet.specs.Answers.{blockOf, bodyOf, partOf}
 use Rattle.packet.specs.declared.BlockAt.the-variants.{Found}
 use Rattle.compose.specs.Writing.{newBytes, newAnswer, sizeIn, frontPacket, addAnswer, grown}
 
@@ -57,7 +57,7 @@ Added-read =
     (s : List ℕ) (b : Block) (sender : ℕ) (es : List Entry) (n : ℕ) → Fits b → frontPacket s ≡ good sender es → addAnswer s b ≡ Size n →
     ReadsAs b sender es (sizeIn s)
 
--- Every earlier block keeps its body, and reads as before, but for a D4 that its block 14 has now lifted.
+-- Every earlier block keeps its place and its body, and reads as before, but for a D4 that its block 14 has now lifted.
 pub record Lifted (sender : ℕ) (es : List Entry) (e : Entry) (k : ℕ) : Type 0 where
   pub type : ℕ
   pub block : Block
@@ -71,4 +71,5 @@ abbrev pub Earlier-kept : Type 0
 Earlier-kept =
     (sender : ℕ) (es : List Entry) (e : Entry) (k : ℕ) → k < length es →
     (partOf (good sender (es ++ e ∷ [])) k ≡ partOf (good sender es) k)
+    × (bodyOf (good sender (es ++ e ∷ [])) k ≡ bodyOf (good sender es) k)
     × ((blockOf (good sender (es ++ e ∷ [])) k ≡ blockOf (good sender es) k) ⊎ Lifted sender es e k)

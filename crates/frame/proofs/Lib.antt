@@ -4,3 +4,4 @@ pub mod Walking
 pub mod Reserved
 pub mod Behind
 pub mod Whole
+pub mod Filled

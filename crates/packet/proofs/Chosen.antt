@@ -16,6 +16,7 @@ use Rattle.packet.specs.declared.Opened.the-variants.{Refused as Opened�
 use Rattle.packet.specs.Blocks.{readIn}
 use Rattle.packet.specs.Answers.{pick, blockOf, bodyOf, bodyStart}
 use Rattle.packet.specs.Steps.{openedOf, blocksOf, Inside}
+use Rattle.packet.specs.Laws.{PartIs, Body-is-part}
 use Rattle.packet.proofs.Opening.{Open, opened, opened-bad}
 use Rattle.packet.proofs.Measuring.{body-length, body-is}
 use Rattle.packet.proofs.Numbered.{Numbered, numbered, numbered-none, body-none}
@@ -62,17 +63,12 @@ refused s k r h =
     let e = opened-bad s k r h in
     record { block = rw e; part = rw e; start = rw e }
 
--- the body is the part of the packet that its start and length give
-pub record PartIs (s : List ℕ) (k : ℕ) : Type 0 where
-  pub fits : bodyStart (packetOf s) k + length (bodyOf (packetOf s) k) ≤ length s
-  pub body : take (length (bodyOf (packetOf s) k)) (drop (bodyStart (packetOf s) k) s) ≡ bodyOf (packetOf s) k
-
 from-says : (s : List ℕ) (k : ℕ) (answer : BlockAt) (body : List ℕ) (place : ℕ) → Says s k answer body place →
     place + length body ≤ length s → take (length body) (drop place s) ≡ body → PartIs s k
 from-says s k answer body place says h e =
     record { fits = rw (← says .part, ← says .start) h; body = rw (← says .part, ← says .start) e }
 
-pub part-is : (s : List ℕ) (k : ℕ) → PartIs s k
+pub part-is : Body-is-part
 part-is s k = go (packetOf s) refl
   where
     none : (r : BlockAt) → Says s k r [] 0 → PartIs s k

@@ -2,9 +2,9 @@
 -- D4. Assumes nothing.
 use Prim.Native.Nat.{ℕ}
 use mathlib.Core.Path.{_≡_, refl, sym, _∙_}
-use mathlib.Core.Bool.{Bool, true, false}
+use mathlib.Core.Bool.{Bool, true, false, _||_}
 use mathlib.Core.Logic.{_⊎_, inl, inr}
-use mathlib.Core.List.{List}
+use mathlib.Core.List.{List, [], _∷_}
 use native.Mathlib.Omega.{arith}
 use Rattle.refusal.specs.Answer.{unless}
 use Rattle.block.specs.Types.{unmeasured}
@@ -16,8 +16,8 @@ use Rattle.block.specs.declared.BlockRead.the-variants.{Typed, Unknown, Dropped
 use Rattle.block.specs.declared.Needs.{Needs}
 use Rattle.block.specs.declared.Needs.the-variants.{Nothing, MeasurementOf}
 use Rattle.frame.specs.Frames.{Entry}
-use Rattle.packet.specs.Blocks.{measured, given, judged, readIn}
-use Rattle.packet.specs.Laws.{Own-but-unmeasured, Unmeasured, Unmeasured-exactly}
+use Rattle.packet.specs.Blocks.{measures, measured, given, judged, readIn}
+use Rattle.packet.specs.Laws.{Own-but-unmeasured, Unmeasured, Unmeasured-exactly, Measured-anywhere}
 
 -- the cases of `judged`
 module _ (es : List Entry) (own : BlockRead) where
@@ -72,3 +72,12 @@ pub unmeasured-exactly : Unmeasured-exactly
 unfolding readIn
 unmeasured-exactly es e =
     (unmeasured-only es e, λ u. sym (lacks-measurement es (readBlock (e .kind) (e .specific) (e .body)) (u .block) (u .source) (u .typed) (u .needs) (u .nowhere)))
+
+or-true : (a : Bool) → (a || true) ≡ true
+or-true true = refl
+or-true false = refl
+
+pub measured-anywhere : Measured-anywhere
+unfolding measured
+measured-anywhere source [] back e h = rw h
+measured-anywhere source (x ∷ front) back e h = rw (measured-anywhere source front back e h) (or-true (measures source x))

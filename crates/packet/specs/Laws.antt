@@ -1,16 +1,19 @@
 -- What callers may lean on, as statements about the definitions that the calls promise. Proved in proofs/.
-use Prim.Native.Nat.{ℕ}
+use Prim.Native.Nat.{ℕ, _+_, _≤_}
 use mathlib.Core.Path.{_≡_}
-use mathlib.Core.Bool.{false}
+use mathlib.Core.Bool.{true, false}
 use mathlib.Core.Logic.{_⊎_}
-use mathlib.Core.List.{List}
+use mathlib.Core.List.{List, _∷_, _++_}
+use lib.ListN.{length, take, drop}
 use Rattle.block.specs.Types.{unmeasured}
 use Rattle.block.specs.Reading.{readBlock, needsOf}
 use Rattle.block.specs.declared.Block.{Block}
 use Rattle.block.specs.declared.BlockRead.the-variants.{Typed, Dropped}
 use Rattle.block.specs.declared.Needs.the-variants.{MeasurementOf}
 use Rattle.frame.specs.Frames.{Entry}
-use Rattle.packet.specs.Blocks.{measured, readIn}
+use Rattle.frame.specs.Packet.{packetOf}
+use Rattle.packet.specs.Blocks.{measures, measured, readIn}
+use Rattle.packet.specs.Answers.{bodyOf, bodyStart}
 
 -- In a packet a block reads as by itself, but for D4.
 abbrev pub Own-but-unmeasured : Type 0
@@ -26,3 +29,15 @@ pub record Unmeasured (es : List Entry) (e : Entry) : Type 0 where
 
 abbrev pub Unmeasured-exactly : Type 0
 Unmeasured-exactly = (es : List Entry) (e : Entry) → (readIn es e ≡ Dropped unmeasured → Unmeasured es e) × (Unmeasured es e → readIn es e ≡ Dropped unmeasured)
+
+-- "anywhere in the packet, before or after": one well-sized block 14 of a source is enough, wherever it stands.
+abbrev pub Measured-anywhere : Type 0
+Measured-anywhere = (source : ℕ) (front back : List Entry) (e : Entry) → measures source e ≡ true → measured source (front ++ e ∷ back) ≡ true
+
+-- The body is the part of the packet that its start and length give, for any bytes and any index.
+pub record PartIs (s : List ℕ) (k : ℕ) : Type 0 where
+  pub fits : bodyStart (packetOf s) k + length (bodyOf (packetOf s) k) ≤ length s
+  pub body : take (length (bodyOf (packetOf s) k)) (drop (bodyStart (packetOf s) k) s) ≡ bodyOf (packetOf s) k
+
+abbrev pub Body-is-part : Type 0
+Body-is-part = (s : List ℕ) (k : ℕ) → PartIs s k

@@ -6,7 +6,8 @@ use lib.ListN.{length, take, drop}
 use Rattle.frame.specs.Packet.{packetOf}
 use Rattle.packet.specs.declared.Part.{Part}
 use Rattle.packet.specs.Answers.{bodyOf, bodyStart}
-use Rattle.packet.proofs.Chosen.{PartIs, part-is}
+use Rattle.packet.specs.Laws.{PartIs}
+use Rattle.packet.proofs.Chosen.{part-is}
 use borrow.Author.Needs.{needs}
 use Rattle.packet.proofs.body.Statement.{statement}
 use Rattle.packet.proofs.body.Tie as tie
