@@ -2,8 +2,12 @@
 
 mod support;
 
-use std::ops::RangeInclusive;
-use support::{from_env, pattern, Random};
+use support::{
+    cards::{
+        card_of, corners, in_range, random_fields, read_both, write_both, Fields, P10, RANGES,
+    },
+    from_env, pattern, Random,
+};
 
 /// How many valid cards are damaged in every single place; `NUVASKOE_CARDS` overrides.
 const CARDS: usize = 3_000;
@@ -12,73 +16,11 @@ const PAYLOADS: usize = 300;
 /// How many inputs each test of stray inputs draws.
 const STRAYS: usize = 20_000;
 
-/// The four settings in the card's order: Gmin, B, T, spacing.
-type Fields = [u32; 4];
-/// A good answer, or a refusal's number and place.
-type Answer<T> = Result<T, (u32, usize)>;
-
-const RANGES: [RangeInclusive<u32>; 4] = [1..=255, 1..=1_024, 0..=1_024, 1..=40_000];
-
 const BUFFER_SHORT: (u32, usize) = (8, 0);
 const CARD_DIGITS: (u32, usize) = (11, 0);
 const CARD_CHECK: (u32, usize) = (12, 0);
 const CARD_FIELD: (u32, usize) = (13, 0);
 const SETTING: (u32, usize) = (15, 0);
-
-const P10: &[u8; 20] = b"01600100000100040096";
-
-fn in_range(fields: Fields) -> bool {
-    (0..4).all(|field| RANGES[field].contains(&fields[field]))
-}
-
-fn random_fields(random: &mut Random) -> Fields {
-    RANGES.map(|range| random.within(&range))
-}
-
-/// Reads `card` with both and gives the answer on which they agree.
-fn read_both(card: &[u8]) -> Answer<Fields> {
-    let library: Answer<Fields> = nuvaskoe::card::read(card)
-        .map(|s| [s.gmin, s.batch, s.threshold, s.spacing])
-        .map_err(|refusal| (refusal.number, refusal.place));
-    let independent: Answer<Fields> = independent::card::read(card)
-        .map(|s| [s.gmin, s.batch, s.threshold, s.spacing])
-        .map_err(|refusal| (refusal.number, refusal.place));
-    assert_eq!(library, independent, "card {}", card.escape_ascii());
-    library
-}
-
-/// Writes with both into equal buffers of `length` bytes and gives the answer and the
-/// buffer on which they agree.
-fn write_both(fields: Fields, length: usize) -> (Answer<usize>, Vec<u8>) {
-    let [gmin, batch, threshold, spacing] = fields;
-    let (mut library_out, mut independent_out) = (pattern(length), pattern(length));
-    let settings = nuvaskoe::card::Settings {
-        gmin,
-        batch,
-        threshold,
-        spacing,
-    };
-    let library = nuvaskoe::card::write(settings, &mut library_out)
-        .map_err(|refusal| (refusal.number, refusal.place));
-    let settings = independent::card::Settings {
-        gmin,
-        batch,
-        threshold,
-        spacing,
-    };
-    let independent = independent::card::write(settings, &mut independent_out)
-        .map_err(|refusal| (refusal.number, refusal.place));
-    assert_eq!(library, independent, "{settings:?}, {length} bytes");
-    assert_eq!(library_out, independent_out, "{settings:?}, {length} bytes");
-    (library, library_out)
-}
-
-/// The card of settings in range.
-fn card_of(fields: Fields) -> Vec<u8> {
-    let (answer, card) = write_both(fields, 20);
-    assert_eq!(answer, Ok(20), "{fields:?}");
-    card
-}
 
 /// Writes into every length up to 24, past the card's 20, and checks the refusals' order.
 fn write_every_length(fields: Fields) {
@@ -94,25 +36,6 @@ fn write_every_length(fields: Fields) {
         let kept = &pattern(length)[written..];
         assert_eq!(&out[written..], kept, "{fields:?}, {length} bytes");
     }
-}
-
-/// The ends of a range and their neighbours, and numbers that would pass if cut to a
-/// byte, to 16 bits or to the field's digits.
-fn corners(range: &RangeInclusive<u32>) -> [u32; 11] {
-    let (least, most) = (*range.start(), *range.end());
-    [
-        0,
-        least,
-        least + 1,
-        most - 1,
-        most,
-        most + 1,
-        most + (1 << 8),
-        most + (1 << 16),
-        most + 1_000,
-        most + 100_000,
-        u32::MAX,
-    ]
 }
 
 #[test]

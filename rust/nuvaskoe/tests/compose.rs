@@ -8,7 +8,7 @@ use std::collections::BTreeSet;
 use support::{
     adding::{
         add_both, add_lawfully, bytes_of, front_size, new_both, one_of_each, random_sources,
-        random_typed, writable,
+        random_typed, with_room, writable,
     },
     compare::{alone_both, compare, shown, Answer},
     from_env,
@@ -21,13 +21,6 @@ const PACKETS: usize = 20_000;
 
 fn packets() -> usize {
     from_env("NUVASKOE_PACKETS", PACKETS)
-}
-
-/// `packet` at the front of a buffer with `room` more bytes, which hold a pattern.
-fn with_room(packet: &[u8], room: usize) -> Vec<u8> {
-    let mut buffer = pattern(packet.len() + room);
-    buffer[..packet.len()].copy_from_slice(packet);
-    buffer
 }
 
 /// What adding to a good packet comes to, far from the longest packet.

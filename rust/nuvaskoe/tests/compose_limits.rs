@@ -6,19 +6,9 @@ use independent::block::Block;
 use support::{
     adding::{add_both, add_lawfully, bytes_of, library_block, new_both, one_of_each},
     compare::{compare, read_both, Answer},
-    packets::{block, listed, packet, P12},
+    packets::{block, listed, one_block, packet, LONGEST, P12},
     pattern,
 };
-
-/// The longest packet: a length field of 65,535.
-const LONGEST: usize = 262_144;
-
-/// A packet of `length` bytes with one unknown block that fills it.
-fn one_block(length: usize) -> Vec<u8> {
-    let bytes = packet(7, &[block(1, 0, &vec![0; length - 12])]);
-    assert_eq!(bytes.len(), length);
-    bytes
-}
 
 /// A buffer of `length` bytes with `packet` at its front and a pattern after it, or with
 /// as much of the packet as there is room for.

@@ -2,18 +2,14 @@
 
 mod support;
 
-use independent::{
-    block::Reading,
-    burst::{self, Figures},
-    trace::Event,
-};
+use independent::{block::Reading, burst::Figures, trace::Event};
 use support::{
-    adding::{add_lawfully, library_block, writable},
+    adding::{add_lawfully, writable},
     compare::{block_both, Answer},
     from_env,
     measuring::{
-        all_traces, figures_both, random_gmin, random_spacing, random_trace, EVENTS, LONGEST,
-        OVER_RANGE, UNAVAILABLE,
+        all_traces, any_figures, discard_block_both, figures_both, loss_block_both, random_gmin,
+        random_spacing, random_trace, EVENTS, LONGEST, OVER_RANGE, UNAVAILABLE,
     },
     packets::{listed, packet},
     Random,
@@ -251,26 +247,11 @@ fn over_range() {
 /// The blocks hold the figures and, unless refused with 16, read back. Those of `measured`
 /// figures are not refused.
 fn check_blocks(figures: &Figures, source: u32, flag: u8, measured: bool) {
-    let ours = nuvaskoe::figures::Figures {
-        burst_rate: figures.burst_rate,
-        gap_rate: figures.gap_rate,
-        mean: figures.mean,
-        variance: figures.variance,
-    };
     let blocks = [
-        (
-            ours.loss_block(source, flag),
-            burst::loss_block(figures, source, flag),
-            56,
-        ),
-        (
-            ours.discard_block(source, flag),
-            burst::discard_block(figures, source, flag),
-            52,
-        ),
+        (loss_block_both(figures, source, flag), 56),
+        (discard_block_both(figures, source, flag), 52),
     ];
-    for (ours, block, size) in blocks {
-        assert_eq!(ours, library_block(&block));
+    for (block, size) in blocks {
         let mut buffer = packet(1, &[listed(14, source)]);
         buffer.resize(64, 0);
         let good = writable(&block);
@@ -315,16 +296,7 @@ fn blocks_of_any_figures() {
     let mut random = Random::new("blocks_of_any_figures");
     for flag in 0..=u8::MAX {
         for _ in 0..20 {
-            let mut half = || {
-                let any = random.draw() as u16;
-                random.one_of(&[0, 1, 32_768, 32_769, 65_534, 65_535, any])
-            };
-            let any = Figures {
-                burst_rate: half(),
-                gap_rate: half(),
-                mean: half(),
-                variance: half(),
-            };
+            let any = any_figures(&mut random);
             check_blocks(&any, random.draw() as u32, flag, false);
         }
     }

@@ -193,7 +193,7 @@ fn good_blocks_before_one_past_the_end() {
             past[offset + 2..offset + 4].copy_from_slice(&words.to_be_bytes());
             refused(&past, 6, offset);
             for index in 0..8 {
-                body_both(&past, index);
+                assert_eq!(body_both(&past, index), Err((6, offset)));
             }
         }
         blocks.pop();

@@ -4,12 +4,11 @@ mod support;
 
 use support::{
     compare::{block_both, compare, list_both, refused, verdicts},
-    packets::{all_kinds, block, fit_length, listed, measured_late, packet, random_packet, P12},
+    packets::{
+        all_kinds, block, fit_length, listed, measured_late, packet, random_packet, LONGEST, P12,
+    },
     Random,
 };
-
-/// The longest packet: a length field of 65,535.
-const LONGEST: usize = 262_144;
 
 /// What a packet's faults come to: the first refusal that applies.
 fn first_fault(faults: &[(bool, u32)]) -> Option<u32> {

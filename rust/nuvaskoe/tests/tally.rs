@@ -9,9 +9,10 @@ use support::{
     compare::Answer,
     from_env,
     measuring::{
-        close_both, figures_both, independent_tally, library_event, random_gmin, random_spacing,
-        random_trace, take_both, EVENTS, LONGEST, UNAVAILABLE,
+        figures_both, library_event, random_gmin, random_spacing, random_trace, EVENTS, LONGEST,
+        UNAVAILABLE,
     },
+    tallies::{close_both, independent_tally, open_both, take_both},
     Random,
 };
 
@@ -60,12 +61,8 @@ fn opened() {
     for gmin in SETTINGS {
         for spacing in SETTINGS {
             for event in EVENTS {
-                let answer = Tally::open(gmin, spacing, library_event(event));
-                let good = Independent::open(gmin.into(), spacing.into(), event).is_ok();
-                assert_eq!(
-                    good,
-                    (1..=255).contains(&gmin) && (1..=40_000).contains(&spacing)
-                );
+                let answer = open_both(gmin, spacing, library_event(event));
+                let good = (1..=255).contains(&gmin) && (1..=40_000).contains(&spacing);
                 let fresh = Tally {
                     gmin,
                     spacing,
@@ -73,12 +70,8 @@ fn opened() {
                     sums: Sums::default(),
                     stretch: Stretch::default(),
                 };
-                match answer {
-                    Ok(tally) => assert!(good && tally == fresh),
-                    Err(refusal) => {
-                        assert_eq!((good, refusal.number, refusal.place), (false, 15, 0))
-                    }
-                }
+                let expected = if good { Ok(fresh) } else { Err((15, 0)) };
+                assert_eq!(answer, expected);
                 // Handed in as it is, the same tally is refused for the same reason.
                 let expected = if good { NO_PACKET } else { Err((15, 0)) };
                 assert_eq!(close_both(fresh), expected);

@@ -107,6 +107,13 @@ pub fn front_size(buffer: &[u8]) -> usize {
     4 * (usize::from(u16::from_be_bytes([buffer[2], buffer[3]])) + 1)
 }
 
+/// `packet` at the front of a buffer with `room` more bytes, which hold a pattern.
+pub fn with_room(packet: &[u8], room: usize) -> Vec<u8> {
+    let mut buffer = pattern(packet.len() + room);
+    buffer[..packet.len()].copy_from_slice(packet);
+    buffer
+}
+
 /// How many bytes a block takes, its first word among them.
 pub fn bytes_of(block: &Block) -> usize {
     match block {
@@ -170,9 +177,15 @@ pub fn one_of_each(source: u32) -> [Block; 5] {
 /// A block of any kind, its fields often at their limits; about a third of the blocks 17
 /// and 18 may not be written.
 pub fn random_typed(random: &mut Random, sources: &[u32]) -> Block {
+    let block_type = random.one_of(&[14, 17, 17, 18, 240, 241]);
+    random_kind(random, block_type, sources)
+}
+
+/// The same, of a listed type.
+pub fn random_kind(random: &mut Random, block_type: u8, sources: &[u32]) -> Block {
     let source = random.one_of(sources);
-    match random.below(6) {
-        0 => Block::Measurement(Measurement {
+    match block_type {
+        14 => Block::Measurement(Measurement {
             source,
             first: half(random),
             extended_first: word(random),
@@ -181,7 +194,7 @@ pub fn random_typed(random: &mut Random, sources: &[u32]) -> Block {
             seconds: word(random),
             fraction: word(random),
         }),
-        1 | 2 => Block::Loss(Loss {
+        17 => Block::Loss(Loss {
             flag: flag(random),
             source,
             burst_rate: random.one_of(&RATES),
@@ -189,23 +202,24 @@ pub fn random_typed(random: &mut Random, sources: &[u32]) -> Block {
             mean: half(random),
             variance: half(random),
         }),
-        3 => Block::Discard(Discard {
+        18 => Block::Discard(Discard {
             flag: flag(random),
             source,
             burst_rate: random.one_of(&RATES),
             gap_rate: random.one_of(&RATES),
         }),
-        4 => Block::EffectiveLoss(EffectiveLoss {
+        240 => Block::EffectiveLoss(EffectiveLoss {
             source,
             index: half(random),
         }),
-        _ => Block::TransportStream(TransportStream {
+        241 => Block::TransportStream(TransportStream {
             source,
             begin: half(random),
             end: half(random),
             streams: word(random),
             counts: [(); 8].map(|()| word(random)),
         }),
+        other => unreachable!("type {other} is not listed"),
     }
 }
 

@@ -199,6 +199,49 @@ pub fn random_settings(random: &mut Random, trace: &[u8]) -> (u32, u32) {
     (batch as u32, threshold as u32)
 }
 
+/// A trace of any length, empty and too long ones among them, at times with bytes above 2.
+pub fn any_trace(random: &mut Random) -> Vec<u8> {
+    let most = random.one_of(&[2, 12, 100, 700, 2_000]);
+    let mut trace = match random.below(400) {
+        0 => bursty_losses(random, LONGEST),
+        1..=12 => Vec::new(),
+        13..=24 => vec![1; LONGEST + 1 + random.below(2)],
+        _ => {
+            let length = 1 + random.below(most);
+            random_trace(random, length)
+        }
+    };
+    spoil(random, &mut trace);
+    trace
+}
+
+/// Puts up to two bytes above 2 into one trace of twelve.
+pub fn spoil(random: &mut Random, trace: &mut [u8]) {
+    if trace.is_empty() || random.below(12) > 0 {
+        return;
+    }
+    for _ in 0..=random.below(2) {
+        let any = random.byte();
+        trace[random.below(trace.len())] = random.one_of(&[3, 4, 128, 129, 255, any]);
+    }
+}
+
+/// Settings as for an accepted trace, at times a batch longer than it or one out of range.
+pub fn any_settings(random: &mut Random, trace: &[u8]) -> (u32, u32) {
+    let (mut batch, mut threshold) = match trace {
+        [] => (1, 0),
+        _ => random_settings(random, trace),
+    };
+    match random.below(12) {
+        0 => batch = random.one_of(&SETTINGS),
+        1 => threshold = random.one_of(&SETTINGS),
+        2 => batch = (trace.len() as u32).saturating_add(1).min(1_024),
+        3 => batch = random.within(&(1..=1_024)),
+        _ => {}
+    }
+    (batch, threshold)
+}
+
 fn shown(trace: &[u8], batch: u32, threshold: u32) -> String {
     let front: Vec<_> = trace.iter().take(100).map(u8::to_string).collect();
     let packets = trace.len();

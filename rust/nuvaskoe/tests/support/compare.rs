@@ -18,7 +18,7 @@ pub fn compare(packet: &[u8]) -> Answer<(u32, usize)> {
     for index in indices(count) {
         let read = block_both(packet, index);
         assert_eq!(read.is_ok(), index < count, "block {index}");
-        body_both(packet, index);
+        let _ = body_both(packet, index);
     }
     for length in [(2 * count).saturating_sub(1), 2 * count, 2 * count + 3] {
         let _ = list_both(packet, length);
@@ -77,14 +77,19 @@ pub fn alone_both(block_type: u8, specific: u8, body: &[u8]) -> Reading {
 }
 
 /// The body is the very part of the packet, and the block by itself reads as it does by
-/// index, save for D4.
-pub fn body_both(packet: &[u8], index: usize) {
+/// index, save for D4. Where the block is refused it is empty, and so refused here.
+pub fn body_both(packet: &[u8], index: usize) -> Answer<()> {
     let library = nuvaskoe::packet::body(packet, index);
     let independent = independent::packet::body(packet, index);
     assert_eq!(library, independent, "body {index} of {}", shown(packet));
-    let Ok((block_type, reading)) = block_both(packet, index) else {
-        assert!(library.is_empty());
-        return;
+    let (block_type, reading) = match block_both(packet, index) {
+        Ok(block) => block,
+        Err(refusal) => {
+            assert!(library.is_empty());
+            // The offset is then 0.
+            assert_eq!(library.as_ptr(), packet.as_ptr());
+            return Err(refusal);
+        }
     };
     // Also where the body is empty.
     assert_eq!(library.as_ptr(), independent.as_ptr());
@@ -103,6 +108,7 @@ pub fn body_both(packet: &[u8], index: usize) {
         )),
         _ => assert_eq!(reading, alone),
     }
+    Ok(())
 }
 
 /// Lists with both into equal buffers of `length` entries, and gives the answer and the

@@ -1,13 +1,13 @@
-//! The library's figures and tallies beside the independent ones, and traces to measure.
+//! The library's figures and their blocks beside the independent ones, and traces to measure.
 
-use super::{compare::Answer, Random};
+use super::{adding::library_block, batches::spoil, compare::Answer, Random};
 use independent::{
+    block::Block,
     burst::{self, Figures},
     refusal::Refusal,
-    tally::Tally,
     trace::Event,
 };
-use nuvaskoe::{figures as library, tally, trace};
+use nuvaskoe::{figures as library, trace};
 
 pub const EVENTS: [Event; 2] = [Event::Lost, Event::Discarded];
 /// The longest trace.
@@ -35,36 +35,23 @@ pub fn figures_both(trace: &[u8], gmin: u32, spacing: u32, event: Event) -> Answ
     library
 }
 
-/// Gives the tally a packet with both, and gives the library's next tally and the answer
-/// on which they agree. A refused tally comes back as given.
-pub fn take_both(given: tally::Tally, packet: u8) -> (tally::Tally, Answer<()>) {
-    let (next, library) = given.take(packet);
-    let library = library.map_err(|refusal| (refusal.number, refusal.place));
-    let (_, independent) = independent_tally(&given).take(packet);
-    assert_eq!(library, independent.map_err(refused), "{given:?}, {packet}");
-    match library {
-        Err(_) => assert_eq!(next, given, "{packet}"),
-        Ok(()) => {
-            let kept = (next.gmin, next.spacing, next.event);
-            assert_eq!(kept, (given.gmin, given.spacing, given.event));
-            assert_eq!(next.sums.packets, given.sums.packets + 1);
-        }
-    }
-    (next, library)
+/// The block 17 of these figures, on which both agree.
+pub fn loss_block_both(figures: &Figures, source: u32, flag: u8) -> Block {
+    let library = library_figures(figures).loss_block(source, flag);
+    let independent = burst::loss_block(figures, source, flag);
+    assert_eq!(library, library_block(&independent), "{source}, {flag}");
+    independent
 }
 
-/// Closes the tally with both, and gives the answer on which they agree.
-pub fn close_both(given: tally::Tally) -> Answer<Figures> {
-    let library = given
-        .close()
-        .map(|figures| independent_figures(&figures))
-        .map_err(|refusal| (refusal.number, refusal.place));
-    let independent = independent_tally(&given).close().map_err(refused);
-    assert_eq!(library, independent, "{given:?}");
-    library
+/// The block 18 of these figures, on which both agree.
+pub fn discard_block_both(figures: &Figures, source: u32, flag: u8) -> Block {
+    let library = library_figures(figures).discard_block(source, flag);
+    let independent = burst::discard_block(figures, source, flag);
+    assert_eq!(library, library_block(&independent), "{source}, {flag}");
+    independent
 }
 
-fn refused(refusal: Refusal) -> (u32, usize) {
+pub fn refused(refusal: Refusal) -> (u32, usize) {
     (refusal.number, refusal.place)
 }
 
@@ -75,9 +62,16 @@ pub fn library_event(event: Event) -> trace::Event {
     }
 }
 
-/// The library's figures in the independent words.
-pub fn independent_figures(figures: &library::Figures) -> Figures {
-    Figures {
+pub fn independent_event(event: trace::Event) -> Event {
+    match event {
+        trace::Event::Lost => Event::Lost,
+        trace::Event::Discarded => Event::Discarded,
+    }
+}
+
+/// The independent figures in the library's words.
+pub fn library_figures(figures: &Figures) -> library::Figures {
+    library::Figures {
         burst_rate: figures.burst_rate,
         gap_rate: figures.gap_rate,
         mean: figures.mean,
@@ -85,26 +79,13 @@ pub fn independent_figures(figures: &library::Figures) -> Figures {
     }
 }
 
-/// The numbers of the library's tally as an independent one: sound, and closed, alike. A
-/// packet more is not kept alike, for the two close a stretch at different packets.
-pub fn independent_tally(tally: &tally::Tally) -> Tally {
-    Tally {
-        gmin: tally.gmin.into(),
-        spacing: tally.spacing.into(),
-        event: match tally.event {
-            trace::Event::Lost => Event::Lost,
-            trace::Event::Discarded => Event::Discarded,
-        },
-        seen: tally.sums.packets,
-        events: tally.sums.events,
-        burst_packets: tally.sums.burst_packets,
-        burst_events: tally.sums.burst_events,
-        bursts: tally.sums.bursts,
-        duration_sum: tally.sums.durations,
-        duration_squares: tally.sums.squares,
-        open_events: tally.stretch.events,
-        open_packets: tally.stretch.packets,
-        open_gap: tally.stretch.since,
+/// The library's figures in the independent words.
+pub fn independent_figures(figures: &library::Figures) -> Figures {
+    Figures {
+        burst_rate: figures.burst_rate,
+        gap_rate: figures.gap_rate,
+        mean: figures.mean,
+        variance: figures.variance,
     }
 }
 
@@ -132,6 +113,20 @@ pub fn random_trace(random: &mut Random, length: usize) -> Vec<u8> {
     trace
 }
 
+/// A trace of any length, empty and too long ones among them, at times with bytes above 2.
+pub fn any_trace(random: &mut Random) -> Vec<u8> {
+    let most = random.one_of(&[2, 12, 100, 1_000, 6_000]);
+    let length = match random.below(400) {
+        0 => LONGEST,
+        1..=12 => 0,
+        13..=24 => LONGEST + 1 + random.below(2),
+        _ => 1 + random.below(most),
+    };
+    let mut trace = random_trace(random, length);
+    spoil(random, &mut trace);
+    trace
+}
+
 /// Gmin, often at its limits.
 pub fn random_gmin(random: &mut Random) -> u32 {
     let any = random.within(&(1..=255));
@@ -142,4 +137,31 @@ pub fn random_gmin(random: &mut Random) -> u32 {
 pub fn random_spacing(random: &mut Random) -> u32 {
     let any = random.within(&(1..=40_000));
     random.one_of(&[1, 999, 1_000, 1_001, 39_999, 40_000, any, any])
+}
+
+/// Gmin and spacing at their limits, some past them.
+pub fn any_settings(random: &mut Random) -> (u32, u32) {
+    const PAST: [u32; 8] = [0, 256, 40_001, 65_536, 65_537, 65_791, 1 << 31, u32::MAX];
+    let (mut gmin, mut spacing) = (random_gmin(random), random_spacing(random));
+    match random.below(12) {
+        0 => gmin = random.one_of(&PAST),
+        1 => spacing = random.one_of(&[0, 40_001, 65_536, 65_537, 1 << 31, u32::MAX]),
+        2 => (gmin, spacing) = (spacing, gmin),
+        _ => {}
+    }
+    (gmin, spacing)
+}
+
+/// Figures that a trace may or may not have.
+pub fn any_figures(random: &mut Random) -> Figures {
+    let mut half = || {
+        let any = random.draw() as u16;
+        random.one_of(&[0, 1, 32_768, 32_769, 65_534, 65_535, any])
+    };
+    Figures {
+        burst_rate: half(),
+        gap_rate: half(),
+        mean: half(),
+        variance: half(),
+    }
 }

@@ -1,12 +1,15 @@
-//! What the comparison tests share: repeatable pseudo-random draws, and counts that
-//! the environment may set.
+//! What the comparison tests, the comparison command and the benchmark share: repeatable
+//! pseudo-random draws, counts that the environment may set, inputs, and each call of the
+//! library beside the independent one.
 #![allow(dead_code)] // Each test file is its own crate and uses its own part.
 
 pub mod adding;
 pub mod batches;
+pub mod cards;
 pub mod compare;
 pub mod measuring;
 pub mod packets;
+pub mod tallies;
 
 use std::{env, fmt, ops::RangeInclusive, str::FromStr};
 
@@ -25,19 +28,32 @@ where
     }
 }
 
+/// The seed of a run: `NUVASKOE_SEED`, or always the same.
+pub fn seed() -> u64 {
+    from_env("NUVASKOE_SEED", DEFAULT_SEED)
+}
+
 /// The splitmix64 generator.
 pub struct Random(u64);
 
 impl Random {
-    /// The draws of one test: its name is mixed into the run's seed (`NUVASKOE_SEED`),
-    /// so that a test run alone draws what it draws among the others.
+    /// The draws of one test: its name is mixed into the run's seed, so that a test run
+    /// alone draws what it draws among the others.
     pub fn new(test: &str) -> Random {
-        let seed = from_env("NUVASKOE_SEED", DEFAULT_SEED);
+        let seed = seed();
         println!("{test}: NUVASKOE_SEED={seed}");
         let mut random = Random(seed);
         for byte in test.bytes() {
             random.0 = random.draw() ^ u64::from(byte);
         }
+        random
+    }
+
+    /// The draws of one numbered case, whichever cases run before it.
+    pub fn of_case(seed: u64, number: u64) -> Random {
+        let mut random = Random(seed);
+        random.0 = random.draw() ^ number;
+        random.0 = random.draw();
         random
     }
 

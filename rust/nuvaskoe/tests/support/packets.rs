@@ -6,6 +6,8 @@ use super::Random;
 pub const VERSION_2: u8 = 0x80;
 /// Byte 1 of a good packet.
 pub const REPORT: u8 = 207;
+/// The longest packet: a length field of 65,535.
+pub const LONGEST: usize = 262_144;
 /// Type-specific byte with flag 1.
 pub const FLAG: u8 = 0x40;
 
@@ -68,6 +70,13 @@ pub fn sourced(block_type: u8, words: usize, source: u32) -> Vec<u8> {
 pub fn listed(block_type: u8, source: u32) -> Vec<u8> {
     let words = listed_words(block_type).expect("a listed type");
     sourced(block_type, words, source)
+}
+
+/// A packet of `length` bytes with one unknown block that fills it.
+pub fn one_block(length: usize) -> Vec<u8> {
+    let bytes = packet(7, &[block(1, 0, &vec![0; length - 12])]);
+    assert_eq!(bytes.len(), length);
+    bytes
 }
 
 /// All five kinds and an unknown block: 152 bytes, each different from its neighbours.
@@ -170,4 +179,84 @@ pub fn damage(random: &mut Random, packet: &mut Vec<u8>) {
         _ if length > 0 => packet[random.below(length)] = random.byte(),
         _ => {}
     }
+}
+
+/// Any bytes, and packets that are good, damaged, long or too long.
+pub fn any_packet(random: &mut Random) -> Vec<u8> {
+    if random.below(200) == 0 {
+        return long_packet(random);
+    }
+    let mut packet = random_packet(random);
+    let (place, length) = (random.below(packet.len()), random.below(12));
+    match random.below(16) {
+        0 => return random.bytes(8 * length),
+        1 => return short_blocks(random),
+        2 => packet.truncate(length),
+        3..=5 => damage_header(random, &mut packet),
+        6 | 7 => packet[place] = random.byte(),
+        8 => damage(random, &mut packet),
+        9 => {
+            damage(random, &mut packet);
+            damage(random, &mut packet);
+        }
+        10 => {
+            packet.truncate(place.max(8) / 4 * 4);
+            fit_length(&mut packet);
+        }
+        _ => {}
+    }
+    packet
+}
+
+/// A fault that one of the refusals 2 to 5 names.
+fn damage_header(random: &mut Random, packet: &mut [u8]) {
+    match random.below(4) {
+        0 => packet[0] ^= random.one_of(&[0x40, 0x80, 0xC0]),
+        1 => packet[1] = random.one_of(&[0, 200, 206, 208, 255]),
+        2 => packet[3] = packet[3].wrapping_add(random.one_of(&[1, 2, 3, 253, 254, 255])),
+        _ => packet[0] |= 0x20,
+    }
+}
+
+/// Any bytes after a right header, their blocks short, so that some packets are good.
+fn short_blocks(random: &mut Random) -> Vec<u8> {
+    let length = 8 + 4 * random.below(20);
+    let mut packet = random.bytes(length);
+    packet[..2].copy_from_slice(&[VERSION_2, REPORT]);
+    fit_length(&mut packet);
+    for place in (8..length).step_by(4) {
+        packet[place + 2] = 0;
+        packet[place + 3] &= 3;
+    }
+    packet
+}
+
+/// A packet of many blocks, empty ones among them, up to a word past the longest.
+fn long_packet(random: &mut Random) -> Vec<u8> {
+    let size = random.one_of(&[4_096, 65_536, LONGEST, LONGEST + 4]);
+    let one_in = random.one_of(&[1, 2, 100]);
+    let mut bytes = packet(random.draw() as u32, &[]);
+    while bytes.len() < size {
+        let (block_type, words) = random.one_of(&LISTED);
+        let fits = bytes.len() + 4 + 4 * words <= size;
+        match fits && random.below(one_in) == 0 {
+            true => bytes.extend(listed(block_type, random.one_of(&SOURCES))),
+            false => bytes.extend(block(random.byte(), 0, &[])),
+        }
+    }
+    fit_length(&mut bytes);
+    bytes
+}
+
+/// A type, type-specific byte and body, often of a listed type and mostly of its size, whole
+/// words or not.
+pub fn any_body(random: &mut Random) -> (u8, u8, Vec<u8>) {
+    let bytes = random_block(random, &SOURCES);
+    let mut body = bytes[4..].to_vec();
+    match random.below(8) {
+        0 => body.truncate(random.below(body.len() + 1)),
+        1 => body.push(random.byte()),
+        _ => {}
+    }
+    (bytes[0], bytes[1], body)
 }
