@@ -27,6 +27,7 @@ pub fn read(card: &[u8]) -> Result<Settings, Refusal> {
         threshold,
         spacing,
     } = answer.settings;
+    debug_assert!(answer.refusal.number == 0 || [gmin, batch, threshold, spacing] == [0; 4]);
     answer.refusal.unless_refused(Settings {
         gmin,
         batch,
@@ -48,5 +49,6 @@ pub fn write(settings: Settings, out: &mut [u8]) -> Result<usize, Refusal> {
     };
     // SAFETY: a slice's pointer is never null, and `out` lends all its length for writing.
     let answer = unsafe { boundary::nuvaskoe_card_write(settings, out.as_mut_ptr(), out.len()) };
+    debug_assert!(answer.refusal.number == 0 || answer.size == 0);
     answer.refusal.unless_refused(answer.size)
 }

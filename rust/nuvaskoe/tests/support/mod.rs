@@ -5,6 +5,7 @@
 
 pub mod adding;
 pub mod batches;
+pub mod calls;
 pub mod cards;
 pub mod compare;
 pub mod measuring;
