@@ -5,19 +5,29 @@
 //! cargo run --release --offline --example bench
 //! ```
 //!
-//! Each figure is the least of several rounds, in nanoseconds a call. `read` asks for the
-//! sender and the number of blocks, `all` for every block's offset and verdict, `last`
-//! for the last block by its index. `add` adds one block to the packet named, and `make`
-//! makes the packet named from a new one, by adding one block after the other. `figs` gives
-//! the burst figures of the trace named, a byte a packet, `plan` its resend plan and `loss`
-//! its effective loss; in rows "B x by B y" both times are ours, with batches of x and of y.
+//! Each figure is the least of several rounds, in nanoseconds a call, and answers are
+//! compared before they are timed. Every public call has a row:
+//!
+//! - cards: `read` and `write`;
+//! - packets: `read` asks for the sender and the number of blocks, `all` for every block's
+//!   offset and verdict, `last` for the last block by its index and `body` for its body;
+//!   `alone` reads one block by itself;
+//! - writing: `new` writes a packet without blocks, `add` adds one block to the packet named,
+//!   and `make` makes the packet named from a new one, by adding one block after the other;
+//! - traces, a byte a packet: `figs` gives the burst figures, `plan` the resend plan and
+//!   `loss` effective loss; in rows "B x by B y" both times are ours, with batches of x and y;
+//! - tallies: `open`, `take` one packet and `close`, after as many packets as there are bytes
+//!   in the row; `tally` is all three over the trace named, each packet taken in turn; `block`
+//!   makes a block of figures.
 
 #[path = "../../tests/support/mod.rs"]
 mod support;
 
 mod batches;
+mod cards;
 mod measuring;
 mod reading;
+mod tallies;
 mod writing;
 
 use std::{
@@ -56,20 +66,23 @@ fn nanoseconds<T>(call: &mut impl FnMut() -> T, repeats: u32) -> f64 {
     start.elapsed().as_nanos() as f64 / f64::from(repeats)
 }
 
-fn print(packet: &str, bytes: usize, call: &str, (ours, independent): (f64, f64)) {
+fn print(input: &str, bytes: usize, call: &str, (ours, independent): (f64, f64)) {
     println!(
-        "{packet:<29} {bytes:>7} {call:<4} {ours:>12.1} {independent:>12.1} {:>7.2}",
+        "{input:<29} {bytes:>7} {call:<5} {ours:>12.1} {independent:>12.1} {:>7.2}",
         ours / independent
     );
 }
 
 fn main() {
     println!(
-        "{:<29} {:>7} {:<4} {:>12} {:>12} {:>7}",
-        "packet", "bytes", "call", "ours ns", "indep. ns", "ratio"
+        "{:<29} {:>7} {:<5} {:>12} {:>12} {:>7}",
+        "input", "bytes", "call", "ours ns", "indep. ns", "ratio"
     );
+    cards::time();
     reading::time();
     writing::time();
-    measuring::time();
+    let traces = measuring::traces();
+    measuring::time(&traces);
+    tallies::time(&traces);
     batches::time();
 }

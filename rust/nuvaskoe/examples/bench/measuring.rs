@@ -10,18 +10,30 @@ use super::{
 use independent::{burst, trace::Event};
 use std::hint::black_box;
 
-const GMIN: u32 = 16;
-const SPACING: u32 = 400;
+pub const GMIN: u32 = 16;
+pub const SPACING: u32 = 400;
 
-pub fn time() {
+/// A trace as long as one may be, and its name.
+pub type Named = (&'static str, Vec<u8>);
+
+pub fn time(traces: &[Named]) {
+    for (name, trace) in traces {
+        time_trace(name, trace);
+    }
+}
+
+/// The traces that are measured.
+pub fn traces() -> [Named; 4] {
     let mut random = Random::new("bench");
     let one_in_20: Vec<u8> = (0..LONGEST)
         .map(|_| u8::from(random.below(20) == 0))
         .collect();
-    time_trace("5 % lost at random", &one_in_20);
-    time_trace("lost in bursts", &bursty(&mut random));
-    time_trace("all lost", &vec![1; LONGEST]);
-    time_trace("none lost", &vec![0; LONGEST]);
+    [
+        ("5 % lost at random", one_in_20),
+        ("lost in bursts", bursty(&mut random)),
+        ("all lost", vec![1; LONGEST]),
+        ("none lost", vec![0; LONGEST]),
+    ]
 }
 
 /// Runs of up to 30 packets, four of five lost, between up to 400 received.

@@ -3,15 +3,19 @@
 use super::{
     print, race,
     support::{
-        compare::compare,
-        packets::{all_kinds, block, listed, packet, P12},
+        compare::{alone_both, compare},
+        packets::{all_kinds, block, listed, packet, LISTED, P12},
     },
 };
+use independent::block::Reading;
 use std::hint::black_box;
 
 pub fn time() {
     for case in &cases() {
         time_case(case);
+    }
+    for (block_type, _) in LISTED {
+        time_alone(block_type);
     }
 }
 
@@ -106,10 +110,33 @@ fn time_case(case: &Case) {
         || walk(black_box(packet), black_box(&mut their_list)),
     );
     print(case.name, packet.len(), "all", all);
-    let last = count - 1;
+    let index = count - 1;
     let last = race(
-        || nuvaskoe::packet::block(black_box(packet), black_box(last)),
-        || independent::packet::block(black_box(packet), black_box(last)),
+        || nuvaskoe::packet::block(black_box(packet), black_box(index)),
+        || independent::packet::block(black_box(packet), black_box(index)),
     );
     print(case.name, packet.len(), "last", last);
+    let body = race(
+        || nuvaskoe::packet::body(black_box(packet), black_box(index)),
+        || independent::packet::body(black_box(packet), black_box(index)),
+    );
+    print(case.name, packet.len(), "body", body);
+}
+
+/// One block by itself, the one of this type in the packet of all kinds.
+fn time_alone(block_type: u8) {
+    let packet = all_kinds();
+    let judged = independent::packet::judge(&packet).expect("a good packet");
+    let mut frames = judged.blocks.into_iter();
+    let frame = frames.find(|frame| frame.block_type == block_type);
+    let frame = frame.expect("a block of each listed type");
+    let (specific, body) = (frame.specific, &packet[frame.body]);
+    let reading = alone_both(block_type, specific, body);
+    assert!(matches!(reading, Reading::Typed(_)), "{reading:?}");
+    let times = race(
+        || nuvaskoe::block::read(black_box(block_type), black_box(specific), black_box(body)),
+        || independent::block::read(black_box(block_type), black_box(specific), black_box(body)),
+    );
+    let name = format!("block {block_type} by itself");
+    print(&name, body.len(), "alone", times);
 }

@@ -4,7 +4,7 @@ use super::{
     print, race,
     support::{
         adding::{add_both, library_block, new_both, one_of_each},
-        packets::all_kinds,
+        packets::{all_kinds, LISTED},
     },
 };
 use independent::{block::Block, compose};
@@ -16,10 +16,27 @@ const BLOCKS: usize = 4_000;
 pub fn time() {
     let kinds = one_of_each(5);
     let [_, loss, discard, ..] = kinds;
-    time_add("new packet, a 17 added", &new_both(1, 8).1, &loss);
+    time_new();
+    for ((block_type, _), added) in LISTED.into_iter().zip(&kinds) {
+        let name = format!("new packet, a {block_type} added");
+        time_add(&name, &new_both(1, 8).1, added);
+    }
     time_add("all kinds, a 17 added", &all_kinds(), &loss);
     time_make("4,000 blocks 18", &[discard]);
     time_make("4,000 blocks of all kinds", &kinds);
+}
+
+/// A packet without blocks, written again and again.
+fn time_new() {
+    let (answer, packet) = new_both(0x0A0B_0C0D, 8);
+    assert_eq!(answer, Ok(8));
+    let (mut ours, mut theirs) = ([0; 8], [0; 8]);
+    let times = race(
+        || nuvaskoe::packet::new(black_box(0x0A0B_0C0D), black_box(&mut ours)),
+        || compose::new_packet(black_box(0x0A0B_0C0D), black_box(&mut theirs)),
+    );
+    assert!(ours[..] == packet && theirs[..] == packet);
+    print("new packet", packet.len(), "new", times);
 }
 
 /// One add, again and again: the length field, put back each time, takes the block away.
