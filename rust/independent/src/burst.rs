@@ -94,6 +94,7 @@ pub fn running_figures(
 }
 
 /// Block 17 with these figures.
+#[inline]
 pub fn loss_block(figures: &Figures, source: u32, flag: u8) -> Block {
     Block::Loss(Loss {
         flag,
@@ -106,6 +107,7 @@ pub fn loss_block(figures: &Figures, source: u32, flag: u8) -> Block {
 }
 
 /// Block 18 with these figures, which has no mean and no variance.
+#[inline]
 pub fn discard_block(figures: &Figures, source: u32, flag: u8) -> Block {
     Block::Discard(Discard {
         flag,

@@ -51,6 +51,7 @@ pub fn read(card: &[u8]) -> Result<Settings, Refusal> {
 
 /// Writes the card of `settings` at the front of `out` and answers its 20 bytes.
 /// Refusals in order: 15, 8.
+#[inline]
 pub fn write(settings: Settings, out: &mut [u8]) -> Result<usize, Refusal> {
     if !settings.in_range() {
         return Err(Refusal::SETTING);

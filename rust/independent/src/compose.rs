@@ -6,6 +6,7 @@ use crate::refusal::Refusal;
 
 /// Writes a new packet, "its sender and no blocks", and answers its eight bytes.
 /// Refusal: 8.
+#[inline]
 pub fn new_packet(sender: u32, buffer: &mut [u8]) -> Result<usize, Refusal> {
     if buffer.len() < 8 {
         return Err(Refusal::BUFFER_SHORT);

@@ -42,6 +42,7 @@ pub fn read(packet: &[u8]) -> Result<(u32, usize), Refusal> {
 }
 
 /// Block `index`: its type and what it reads as.
+#[inline]
 pub fn block(packet: &[u8], index: usize) -> Result<(u8, Reading), Refusal> {
     let frame = find(packet, index)?;
     let reading = in_packet(packet, &frame, |source| {
@@ -53,6 +54,7 @@ pub fn block(packet: &[u8], index: usize) -> Result<(u8, Reading), Refusal> {
 }
 
 /// The body of block `index`, as the very part of the packet; empty where refused.
+#[inline]
 pub fn body(packet: &[u8], index: usize) -> &[u8] {
     match find(packet, index) {
         Ok(frame) => &packet[frame.body],

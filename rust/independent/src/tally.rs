@@ -36,6 +36,7 @@ pub struct Tally {
 
 impl Tally {
     /// A tally that has taken no packet. Refusal: 15.
+    #[inline]
     pub fn open(gmin: u64, spacing: u64, event: Event) -> Result<Tally, Refusal> {
         trace::check_burst_settings(gmin, spacing)?;
         Ok(Tally {
@@ -56,6 +57,7 @@ impl Tally {
     }
 
     /// Takes one packet; "a tally comes back as given" where that is refused.
+    #[inline]
     pub fn take(self, byte: u8) -> (Tally, Result<(), Refusal>) {
         if !self.sound() {
             return (self, Err(Refusal::SETTING));
@@ -77,6 +79,7 @@ impl Tally {
     }
 
     /// The figures of the packets taken. Refusal: 15, where the tally is not sound.
+    #[inline]
     pub fn close(self) -> Result<Figures, Refusal> {
         if !self.sound() {
             return Err(Refusal::SETTING);

@@ -145,6 +145,7 @@ pub struct Reading {
 }
 
 /// Reads one block by itself. Never refused, and never dropped as unmeasured.
+#[inline]
 pub fn read(block_type: u8, specific: u8, body: &[u8]) -> Reading {
     // SAFETY: a slice's pointer is never null and is good for reading its length.
     let answer =

@@ -18,6 +18,7 @@ pub struct Settings {
 /// The settings on `card`, which holds twenty ASCII digits and nothing else.
 ///
 /// Refusals, in this order: 11, 12, 13.
+#[inline]
 pub fn read(card: &[u8]) -> Result<Settings, Refusal> {
     // SAFETY: a slice's pointer is never null and is good for reading its length.
     let answer = unsafe { boundary::nuvaskoe_card_read(card.as_ptr(), card.len()) };
@@ -40,6 +41,7 @@ pub fn read(card: &[u8]) -> Result<Settings, Refusal> {
 /// the bytes after them keep what they held.
 ///
 /// Refusals, in this order: 15, 8.
+#[inline]
 pub fn write(settings: Settings, out: &mut [u8]) -> Result<usize, Refusal> {
     let settings = boundary::Settings {
         gmin: settings.gmin,

@@ -45,6 +45,7 @@ pub fn of_trace(trace: &[u8], gmin: u32, spacing: u32, event: Event) -> Result<F
 impl Figures {
     /// The block 17 with these figures, whatever the flag: [`crate::packet::add`] takes 1, 2
     /// and 3.
+    #[inline]
     pub fn loss_block(&self, source: u32, flag: u8) -> Block {
         // SAFETY: it takes any numbers.
         let block = unsafe { boundary::nuvaskoe_loss_block(self.into(), source, flag) };
@@ -59,6 +60,7 @@ impl Figures {
     }
 
     /// The block 18 with these rates, in the same way; it has no mean and no variance.
+    #[inline]
     pub fn discard_block(&self, source: u32, flag: u8) -> Block {
         // SAFETY: it takes any numbers.
         let block = unsafe { boundary::nuvaskoe_discard_block(self.into(), source, flag) };

@@ -35,6 +35,7 @@ pub fn read(packet: &[u8]) -> Result<Summary, Refusal> {
 /// Block number `index`, from 0.
 ///
 /// Further refusal: 7, no block with that index.
+#[inline]
 pub fn block(packet: &[u8], index: usize) -> Result<Reading, Refusal> {
     // SAFETY: a slice's pointer is never null and is good for reading its length.
     let answer = unsafe { boundary::nuvaskoe_packet_block(packet.as_ptr(), packet.len(), index) };
@@ -79,6 +80,7 @@ pub fn list(packet: &[u8], out: &mut [u32]) -> Result<usize, Refusal> {
 /// answers 8; the bytes after them keep what they held.
 ///
 /// Refusal: 8.
+#[inline]
 pub fn new(sender: u32, out: &mut [u8]) -> Result<usize, Refusal> {
     // SAFETY: a slice's pointer is never null, and `out` lends all its length for writing.
     let answer = unsafe { boundary::nuvaskoe_packet_new(sender, out.as_mut_ptr(), out.len()) };
@@ -107,6 +109,7 @@ pub fn new(sender: u32, out: &mut [u8]) -> Result<usize, Refusal> {
 /// ```
 ///
 /// A block 17 or 18 reads as unmeasured until a block 14 for its source is there.
+#[inline]
 pub fn add(out: &mut [u8], block: &Block) -> Result<usize, Refusal> {
     let (start, length) = (out.as_mut_ptr(), out.len());
     // SAFETY: a slice's pointer is never null, and `out` lends all its length for writing.

@@ -72,6 +72,7 @@ impl Tally {
     /// A tally that has taken no packet.
     ///
     /// Refusal: 15.
+    #[inline]
     pub fn open(gmin: u32, spacing: u32, event: Event) -> Result<Tally, Refusal> {
         // SAFETY: it takes any numbers.
         let answer = unsafe { boundary::nuvaskoe_tally_open(gmin, spacing, event.number()) };
@@ -88,6 +89,7 @@ impl Tally {
     /// refused.
     ///
     /// Refusals, in this order: 15; 10, it has taken 65,536 packets; 9, with place 0.
+    #[inline]
     pub fn take(self, packet: u8) -> (Tally, Result<(), Refusal>) {
         // SAFETY: it takes any numbers.
         let answer = unsafe { boundary::nuvaskoe_tally_take((&self).into(), packet) };
@@ -97,6 +99,7 @@ impl Tally {
     /// The figures of all packets taken, each unavailable where there was none.
     ///
     /// Refusal: 15.
+    #[inline]
     pub fn close(self) -> Result<Figures, Refusal> {
         // SAFETY: it takes any numbers.
         measured(unsafe { boundary::nuvaskoe_tally_close((&self).into()) })
