@@ -277,16 +277,18 @@ pub fn library_block(block: &Block) -> library::Block {
             source: block.source,
             index: block.index,
         }),
-        Block::TransportStream(block) => {
-            library::Block::TransportStream(library::TransportStream {
-                source: block.source,
-                begin: block.begin,
-                end: block.end,
-                // Never looked at, so anything will do.
-                packets: block.begin ^ block.end ^ 0x5A5A,
-                streams: block.streams,
-                counts: block.counts,
-            })
-        }
+        Block::TransportStream(block) => library_stream(&block),
     }
+}
+
+fn library_stream(block: &TransportStream) -> library::Block {
+    library::Block::TransportStream(library::TransportStream {
+        source: block.source,
+        begin: block.begin,
+        end: block.end,
+        // Never looked at, so anything will do.
+        packets: block.begin ^ block.end ^ 0x5A5A,
+        streams: block.streams,
+        counts: block.counts,
+    })
 }

@@ -242,34 +242,22 @@ pub fn random_hostile(random: &mut Random) -> Tally {
             [open_packets, open_events, 1, duration, square]
         }
     };
-    let [events, burst_packets, burst_events, bursts, durations, squares] =
-        hostile_sums(random, packets, open);
-    let stretch = Stretch {
-        events: open_events,
-        packets: open_packets,
-        since,
-    };
-    let sums = Sums {
-        packets,
-        events,
-        burst_packets,
-        burst_events,
-        bursts,
-        durations,
-        squares,
-    };
     Tally {
         gmin,
         spacing,
         event,
-        sums,
-        stretch,
+        sums: hostile_sums(random, packets, open),
+        stretch: Stretch {
+            events: open_events,
+            packets: open_packets,
+            since,
+        },
     }
 }
 
-/// The sums after the packets, in the order of their struct, around what is sound beside the
-/// open burst's packets, events, count, duration and its square.
-fn hostile_sums(random: &mut Random, packets: u64, open: [u64; 5]) -> [u64; 6] {
+/// Sums of so many packets, around what is sound beside the open burst's packets, events,
+/// count, duration and its square.
+fn hostile_sums(random: &mut Random, packets: u64, open: [u64; 5]) -> Sums {
     let burst_packets = around(random, packets.saturating_sub(open[0]));
     let all_burst_packets = burst_packets.saturating_add(open[0]);
     let burst_events = around(random, all_burst_packets.saturating_sub(open[1]));
@@ -288,12 +276,13 @@ fn hostile_sums(random: &mut Random, packets: u64, open: [u64; 5]) -> [u64; 6] {
     let most = s.wrapping_mul(s);
     let bound = random.one_of(&[least, least, most]);
     let squares = around(random, bound.wrapping_sub(open[4]));
-    [
+    Sums {
+        packets,
         events,
         burst_packets,
         burst_events,
         bursts,
         durations,
         squares,
-    ]
+    }
 }
