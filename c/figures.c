@@ -43,10 +43,10 @@ static int figured(nuvaskoe_figured answer, uint16_t burst, uint16_t gap, uint16
            same_figures(answer.figures, expected);
 }
 
-/* A refused measuring gives its number and place and no figures. */
+/* A refused measuring gives its number and place, and every figure unavailable. */
 static int not_figured(nuvaskoe_figured answer, uint32_t number, size_t place)
 {
-    static const nuvaskoe_burst_figures nothing;
+    static const nuvaskoe_burst_figures nothing = {NONE, NONE, NONE, NONE};
     return answer.refusal.number == number && answer.refusal.place == place &&
            same_figures(answer.figures, nothing);
 }

@@ -46,7 +46,7 @@ static int no_fields(const nuvaskoe_block *block, size_t from)
 static int refused(nuvaskoe_block block, uint32_t number, size_t place)
 {
     return block.refusal.number == number && block.refusal.place == place &&
-           block.type == 0 && block.verdict == 0 && no_fields(&block, 0);
+           block.type == 0 && block.verdict == NUVASKOE_UNKNOWN && no_fields(&block, 0);
 }
 
 static int is_p12(nuvaskoe_block block)

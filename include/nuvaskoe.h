@@ -5,9 +5,10 @@
  * any numbers, returns, and either answers or refuses. A refused call changes no
  * byte of any buffer that it was lent. docs/PROMISES.md says what each promises.
  *
- * A buffer is a pointer and a length in bytes. The pointer is never NULL, also
- * where the length is 0; the bytes behind it belong to the caller, and nothing is
- * kept of it after the call.
+ * A buffer is a pointer and a length in elements: bytes, or 32-bit entries for the
+ * list of nuvaskoe_packet_list. The pointer is never NULL, also where the length is
+ * 0; what stands behind it belongs to the caller, and nothing is kept of it after
+ * the call.
  */
 #ifndef NUVASKOE_H
 #define NUVASKOE_H
@@ -121,7 +122,7 @@ enum {
 typedef struct nuvaskoe_block {
     nuvaskoe_refusal refusal;
     uint32_t type;    /* the block's type; 0 where refused */
-    uint32_t verdict; /* 0 where refused */
+    uint32_t verdict; /* NUVASKOE_UNKNOWN where refused */
     uint32_t fields[NUVASKOE_FIELDS];
 } nuvaskoe_block;
 
@@ -145,8 +146,8 @@ nuvaskoe_part nuvaskoe_packet_body(const uint8_t *packet, size_t packet_len, siz
 
 /*
  * All blocks in one call: for each block two entries of out, its offset in the packet and
- * its verdict; the entries after them keep what they held. Further refusal: 8, fewer than
- * two entries for each block.
+ * its verdict; the entries after them keep what they held. out_len counts entries, not
+ * bytes. Further refusal: 8, fewer than two entries for each block.
  */
 nuvaskoe_written nuvaskoe_packet_list(const uint8_t *packet, size_t packet_len, uint32_t *out, size_t out_len);
 
@@ -291,7 +292,7 @@ typedef struct nuvaskoe_burst_figures {
 /* The answer of a call that measures. */
 typedef struct nuvaskoe_figured {
     nuvaskoe_refusal refusal;
-    nuvaskoe_burst_figures figures; /* all 0 where refused */
+    nuvaskoe_burst_figures figures; /* all 65,535, unavailable, where refused */
 } nuvaskoe_figured;
 
 /* A tally that has taken no packet. Refusal: 15. */

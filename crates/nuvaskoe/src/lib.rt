@@ -1,4 +1,4 @@
-// The boundary to C: each public call of the library under its plain name, as include/nuvaskoe.h declares it. An enum
+// The boundary to C: each call that a user of the library makes, as include/nuvaskoe.h declares it. An enum
 // cannot be exported, so each answer goes out as a struct of plain numbers, made by plain_packet or plain_trace.
 use block::Block;
 use block::DiscardSummary;

@@ -65,6 +65,7 @@ readFields (Dropped reason) = noFields
 abbrev pub readOut : ℕ → BlockRead → BlockFields
 readOut kind r = record { refusal = none; kind = kind; verdict = verdictOf r; fields = readFields r }
 
+-- refused: unknown, since 0 would read as typed
 abbrev pub blockOut : BlockAt → BlockFields
 blockOut (Found kind r) = readOut kind r
-blockOut (Block·Refused r) = record { refusal = r; kind = 0; verdict = 0; fields = noFields }
+blockOut (Block·Refused r) = record { refusal = r; kind = 0; verdict = verdictOf Unknown; fields = noFields }

@@ -225,7 +225,7 @@ pub fn block_out(b: BlockAt) -> BlockFields
         BlockAt::Refused(refusal) => BlockFields {
             refusal,
             kind: 0,
-            verdict: 0,
+            verdict: survey::UNKNOWN as u32,
             fields: NO_FIELDS,
         },
     }

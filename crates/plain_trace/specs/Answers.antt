@@ -1,6 +1,6 @@
 -- What the boundary's structs hold for each answer about a trace: the paper's number and place where the call
--- refused, 0 and 0 where it answered; and the values, 0 where it refused. An event is known by the number of the
--- packets that it counts: 1 lost, 2 discarded.
+-- refused, 0 and 0 where it answered; and the values. Where it refused they are 0, figures are unavailable, and a
+-- tally comes back as given. An event is known by the number of the packets that it counts: 1 lost, 2 discarded.
 use Prim.Native.Nat.{ℕ}
 use mathlib.Core.Bool.{cond}
 use lib.Dec.{eqb}
@@ -8,6 +8,7 @@ use Rattle.refusal.specs.declared.Refusal.{Refusal}
 use Rattle.trace.specs.Trace.{lost, discarded}
 use Rattle.trace.specs.declared.Event.{Event}
 use Rattle.trace.specs.declared.Event.the-variants.{Lost, Discarded}
+use Rattle.block.specs.Reading.{unavailable}
 use Rattle.bursts.specs.declared.Figures.{Figures}
 use Rattle.bursts.specs.declared.Measured.{Measured}
 use Rattle.bursts.specs.declared.Measured.the-variants.{Accepted as Measured·Accepted, Refused as Measured·Refused}
@@ -77,8 +78,9 @@ answerOut (Answer·Refused r) = r
 abbrev pub takenOut : Taken → Tallied
 takenOut t = record { refusal = answerOut (t .answer); tally = tallyOut (t .tally) }
 
+-- four zeros would read as a line without loss
 abbrev pub noFigures : Figures
-noFigures = record { «burst_rate» = 0; «gap_rate» = 0; «burst_mean» = 0; «burst_variance» = 0 }
+noFigures = record { «burst_rate» = unavailable; «gap_rate» = unavailable; «burst_mean» = unavailable; «burst_variance» = unavailable }
 
 abbrev pub figuresOut : Measured → Figured
 figuresOut (Measured·Accepted f) = record { refusal = none; figures = f }

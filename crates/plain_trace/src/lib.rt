@@ -2,6 +2,7 @@
 // which knows no enum. What each struct holds for each case is a definition of specs/Answers.antt.
 use batch::First;
 use batch::LossRead;
+use block::UNAVAILABLE;
 use bursts::Figures;
 use bursts::Measured;
 use bursts::Sums;
@@ -14,7 +15,7 @@ use tally::Taken;
 use tally::Tally;
 use trace::Event;
 ghost use mathlib.Core.Path.{_≡_};
-ghost use Rattle.plain_trace.specs.Answers.{eventIn, eventNumber, tallyIn, tallyOut, openedOut, takenOut, figuresOut, foundOut, lossOut, marksOut};
+ghost use Rattle.plain_trace.specs.Answers.{eventIn, eventNumber, tallyIn, tallyOut, openedOut, takenOut, figuresOut, lossOut, marksOut};
 
 // An event by its number, which is that of the packets it counts.
 pub enum EventRead {
@@ -75,11 +76,12 @@ const NONE: Refusal = Refusal {
     place: 0,
 };
 
+// Of a refused call: four zeros would read as a line without loss.
 pub const NO_FIGURES: Figures = Figures {
-    burst_rate: 0,
-    gap_rate: 0,
-    burst_mean: 0,
-    burst_variance: 0,
+    burst_rate: UNAVAILABLE,
+    gap_rate: UNAVAILABLE,
+    burst_mean: UNAVAILABLE,
+    burst_variance: UNAVAILABLE,
 };
 
 pub const NO_TALLY: TallyNumbers = TallyNumbers {

@@ -10,7 +10,7 @@
 //! the whole answer and every lent byte. The run ends with how many cases of each call were
 //! answered and how many refused, by number; at the first difference it ends with status 1,
 //! the seed, the case and its input. With `--release` the library's Rust calls no longer
-//! check that the rest of a refused answer is 0, and all else is compared.
+//! check what the rest of a refused answer holds, and all else is compared.
 
 #[path = "../tests/support/mod.rs"]
 mod support;

@@ -43,6 +43,8 @@ pub(crate) const BAD_FLAG: u32 = 2;
 pub(crate) const BAD_RATE: u32 = 3;
 pub(crate) const UNMEASURED: u32 = 4;
 pub(crate) const UNKNOWN: u32 = 255;
+/// A figure that could not be measured, and every figure of a refused call.
+pub(crate) const UNAVAILABLE: u16 = 65_535;
 
 pub(crate) const FIELDS: usize = 13;
 

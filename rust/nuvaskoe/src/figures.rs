@@ -73,7 +73,7 @@ impl Figures {
     }
 }
 
-/// The figures in an answer, which are all 0 where it is a refusal.
+/// The figures in an answer, which are all unavailable where it is a refusal.
 pub(crate) fn measured(answer: boundary::Figured) -> Result<Figures, Refusal> {
     let boundary::Figures {
         burst_rate,
@@ -81,7 +81,7 @@ pub(crate) fn measured(answer: boundary::Figured) -> Result<Figures, Refusal> {
         burst_mean: mean,
         burst_variance: variance,
     } = answer.figures;
-    debug_assert!(answer.refusal.number == 0 || [burst_rate, gap_rate, mean, variance] == [0; 4]);
+    debug_assert!(answer.refusal.number == 0 || [burst_rate, gap_rate, mean, variance] == [boundary::UNAVAILABLE; 4]);
     answer.refusal.unless_refused(Figures {
         burst_rate,
         gap_rate,

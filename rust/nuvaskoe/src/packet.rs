@@ -42,7 +42,7 @@ pub fn block(packet: &[u8], index: usize) -> Result<Reading, Refusal> {
     match answer.refusal.unless_refused(()) {
         Ok(()) => Ok(Reading::new(&answer)),
         Err(refusal) => {
-            debug_assert_eq!((answer.block_type, answer.verdict), (0, 0));
+            debug_assert_eq!((answer.block_type, answer.verdict), (0, boundary::UNKNOWN));
             debug_assert_eq!(answer.fields, [0; boundary::FIELDS]);
             Err(refusal)
         }
