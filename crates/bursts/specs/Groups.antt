@@ -51,9 +51,6 @@ unfoldable pub bursts : List Group → List Group
 bursts [] = []
 bursts (b ∷ bs) = cond (isBurst b) (b ∷ bursts bs) (bursts bs)
 
-abbrev pub burstsOf : (ℕ → Bool) → ℕ → List ℕ → List Group
-burstsOf event gmin s = bursts (groups gmin (eventsAt event s))
-
 abbrev pub packetsOf : Group → ℕ
 packetsOf b = b .last - b .first + 1
 

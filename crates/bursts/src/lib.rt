@@ -4,7 +4,7 @@
 use refusal::Refusal;
 ghost use mathlib.Core.Path.{_≡_};
 ghost use Rattle.bursts.specs.Sums.{countsSound, durationsSound, sumsSound};
-ghost use Rattle.bursts.specs.Figures.{rateOf, ranged, meanOf, varianceOf, figuresOf, measuredOf};
+ghost use Rattle.bursts.specs.Figures.{rateOf, ranged, meanOf, varianceOf, measuredOf};
 ghost use Rattle.bursts.specs.Steps.{Rated, Spread};
 
 // E, L, Eb, Lb, n, S and Q of document 01, in its order.

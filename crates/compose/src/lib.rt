@@ -6,9 +6,9 @@ use refusal::Refusal;
 use refusal::Written;
 ghost use mathlib.Core.Path.{_≡_};
 ghost use Rattle.refusal.specs.Answer.{after};
-ghost use Rattle.compose.specs.Writing.{newBytes, newAnswer, frontPacket, frontFound, sizeIn, grown, addAnswer};
+ghost use Rattle.compose.specs.Writing.{newBytes, newAnswer, frontPacket, frontFound, grown, addAnswer};
 
-// Version 2, no padding, type 207 and a length field of 1: the first word of a packet with no blocks.
+// 80 CF 00 01: version 2, no padding, type 207 and a length field of 1, the first word of a packet with no blocks.
 const EMPTY_FIRST_WORD: u32 = 2_161_049_601;
 
 const LENGTH_MAX: usize = 65_535;

@@ -47,7 +47,7 @@ bytesOf b = inBytes (wordsOf b)
 abbrev pub filled : List ℕ → BlockWords
 filled ws = record { count = length ws; words = ws ++ replicate (12 - length ws) 0 }
 
--- what refusal 16 lets through: every block but a 17 or 18 "whose flag is not 1, 2 or 3, or with a rate that
+-- what refusal 16 lets through: every block but a 17 or 18 that "has a flag other than 1, 2 or 3, or a rate that
 -- reading would drop"
 abbrev pub writable : Block → Bool
 writable (Measured m) = true

@@ -1,6 +1,6 @@
 -- The figures of a whole trace and the blocks that carry them: document 01, "The trace and its figures". "For
--- block 17 the events are the lost packets, for block 18 the discarded; all others count as received." The order
--- line is "Traces: 15, 10, 9".
+-- block 17 the events are the lost packets, for block 18 the discarded; all others count as received." Of the
+-- order line "Traces: 15, 10, 9, 14, 8" the first three apply.
 use Prim.Native.Nat.{ℕ}
 use mathlib.Core.List.{List}
 use Rattle.refusal.specs.Table.{setting}

@@ -1,13 +1,13 @@
 -- What a packet's list of blocks says of its bytes: `Blocks-fill` and `Past-means` of specs/Laws.antt. Assumes
 -- nothing.
-use Prim.Native.Nat.{ℕ, zero, suc, _+_, _<_, _≤_}
+use Prim.Native.Nat.{ℕ, zero, suc, _<_, _≤_}
 use mathlib.Core.Path.{_≡_, refl, sym, ap, _∙_}
 use mathlib.Core.List.{List, [], _∷_}
 use native.Mathlib.Omega.{arith}
 use native.Mathlib.Decide.{decLt, decLe}
 use lib.ListN.{length}
 use Rattle.frame.specs.Frames.{Entry, Frames, whole, past, before, nextAt, entryAt, firstBlock, framesFrom, framesAt}
-use Rattle.frame.specs.Laws.{Fill, Blocks-fill, RunsPast, Past-means}
+use Rattle.frame.specs.Laws.{Fill, Blocks-fill, Past-means}
 use Rattle.frame.proofs.Stepping.{First, first-of, at-next, at-end, frames-end, frames-past, frames-next}
 
 -- whole blocks from a place on fill the bytes from there

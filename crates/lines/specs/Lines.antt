@@ -1,5 +1,5 @@
 -- The lines of a listing: document 01, "Sheet of examples". "Here r is a decimal, `over` or `none`; S is eight
--- lower-case hex digits, D the reason's number alone, `bytes n` counts the body, the rest decimal."
+-- lower-case hex digits, D the reason's number alone (4 for D4), `bytes n` counts the body, the rest decimal."
 use Prim.Native.Nat.{ℕ}
 use mathlib.Core.Bool.{cond}
 use mathlib.Core.List.{List, _++_}

@@ -5,7 +5,7 @@ use block::BlockRead;
 use libc::STDOUT_FILENO;
 use refusal::Written;
 ghost use mathlib.Core.Path.{_≡_};
-ghost use Prim.Native.Nat.{_+_, _<_, _≤_};
+ghost use Prim.Native.Nat.{_+_, _≤_};
 ghost use lib.ListN.{length};
 ghost use Rattle.frame.specs.Frames.{nextAt, entryAt};
 ghost use Rattle.packet.specs.Blocks.{readIn};

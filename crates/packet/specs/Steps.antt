@@ -1,4 +1,4 @@
--- What the steps of reading a packet compute and assume, for the contracts of the private functions.
+-- What the steps of reading a packet compute and assume: the answer of `open`, and what the private functions take.
 use Prim.Native.Nat.{ℕ, _<_, _≤_}
 use mathlib.Core.Path.{_≡_}
 use mathlib.Core.List.{List}

@@ -11,7 +11,8 @@ pub struct Refusal {
     pub place: usize,
 }
 
-// What a call that fills a lent buffer from its front answers: how many bytes are the result, or why not.
+// What a call that fills a lent buffer from its front answers: how many bytes, or entries, are the
+// result, or why not.
 pub enum Written {
     Size(usize),
     Refused(Refusal),

@@ -4,11 +4,9 @@ use Prim.Native.Nat.{ℕ, zero, suc, _+_, _-_, _*_, _/_, _<_, _≤_}
 use mathlib.Core.Path.{_≡_, refl, sym, ap, _∙_}
 use mathlib.Core.Bool.{Bool, true, false}
 use native.Mathlib.Omega.{arith}
-use native.Mathlib.Decide.{decLt, decLe}
+use native.Mathlib.Decide.{decLe}
 use native.Mathlib.Nat.{mul-comm, mul-add, add-mul, mul-assoc, mul-left-comm, mul-le-mul, mul-le-mul-right, le-of-mul-le-mul-left, mul-div-le, le-div-iff-mul-le, zero-mul, suc-mul, one-mul}
-use borrow.Author.Tests.{ltb-true, le-leb}
-use lib.Dec.{ltb}
-use Rattle.refusal.proofs.Tests.{and-left}
+use borrow.Author.Tests.{le-leb}
 use Rattle.settings.specs.Ranges.{spacingMax, burstInRange}
 use Rattle.settings.proofs.Bounds.{burst}
 use Rattle.trace.specs.declared.Event.{Event}

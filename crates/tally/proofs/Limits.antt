@@ -1,7 +1,7 @@
 -- Why the bounds that the code tests first are no more than soundness asks for: counting the open stretch in
 -- makes no sum smaller. Assumes nothing.
 use Prim.Native.Nat.{ℕ, _<_, _≤_}
-use mathlib.Core.Path.{_≡_, refl, sym}
+use mathlib.Core.Path.{_≡_, sym}
 use mathlib.Core.Bool.{true, false, _&&_, and-true}
 use native.Mathlib.Omega.{arith}
 use native.Mathlib.Decide.{decLt}

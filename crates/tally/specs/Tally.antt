@@ -144,7 +144,7 @@ unfoldable pub takeAll : Tally → List ℕ → Tally
 takeAll t [] = t
 takeAll t (packet ∷ s) = takeAll (takeOne t packet .tally) s
 
--- The tally of a whole trace, with the order line "Traces: 15, 10, 9".
+-- The tally of a whole trace, with what applies of the order line "Traces: 15, 10, 9, 14, 8".
 unfoldable pub overTrace : ℕ → ℕ → Event → List ℕ → Opened
 overTrace gmin spacing event s =
     unless (burstInRange gmin spacing) (Refused setting)
