@@ -1,0 +1,124 @@
+// Answers written to standard output, without the ends of their lines.
+use bursts::Figures;
+use bursts::Measured;
+use libc::STDOUT_FILENO;
+use refusal::Refusal;
+use refusal::Written;
+ghost use Prim.Native.Nat.{_≤_};
+
+// The most lent bytes and entries that are written.
+const BYTES_MOST: usize = 64;
+
+const ENTRIES_MOST: usize = 16;
+
+// Of 16-bit figures: over range, and unavailable.
+const OVER: u16 = 65_534;
+
+const UNAVAILABLE: u16 = 65_535;
+
+pub fn no_case() {
+    word(b"no case");
+}
+
+pub fn word(w: &[u8]) {
+    io::write_all(STDOUT_FILENO, w);
+}
+
+pub fn number(label: &[u8], n: u64) {
+    io::write_all(STDOUT_FILENO, label);
+    io::print_decimal(STDOUT_FILENO, n);
+}
+
+pub fn refusal(r: Refusal) {
+    number(b"refused ", r.number as u64);
+    number(b" at ", r.place as u64);
+}
+
+pub fn written(label: &[u8], w: Written) {
+    match w {
+        Written::Size(n) => number(label, n as u64),
+        Written::Refused(r) => refusal(r),
+    }
+}
+
+pub fn measured(m: Measured) {
+    match m {
+        Measured::Accepted(f) => figures(f),
+        Measured::Refused(r) => refusal(r),
+    }
+}
+
+fn figures(f: Figures) {
+    figure(b"burst ", f.burst_rate);
+    figure(b" gap ", f.gap_rate);
+    figure(b" mean ", f.burst_mean);
+    figure(b" var ", f.burst_variance);
+}
+
+fn figure(label: &[u8], n: u16) {
+    io::write_all(STDOUT_FILENO, label);
+    if n == OVER {
+        io::write_all(STDOUT_FILENO, b"over");
+        return;
+    }
+    if n == UNAVAILABLE {
+        io::write_all(STDOUT_FILENO, b"none");
+        return;
+    }
+    io::print_decimal(STDOUT_FILENO, n as u64);
+}
+
+// The first of the lent bytes in hexadecimal.
+pub fn bytes(lent: &[u8]) {
+    io::write_all(STDOUT_FILENO, b" bytes");
+    if lent.len() == 0 {
+        return;
+    }
+    io::write_all(STDOUT_FILENO, b" ");
+    let n = least(lent.len(), BYTES_MOST);
+    let mut i = 0;
+    while i < n {
+        io::print_hex(STDOUT_FILENO, wide(lent[i]), 2);
+        i += 1;
+    }
+}
+
+// The first bytes of a plan, one digit each.
+pub fn plan(lent: &[u8]) {
+    io::write_all(STDOUT_FILENO, b" plan");
+    if lent.len() == 0 {
+        return;
+    }
+    io::write_all(STDOUT_FILENO, b" ");
+    let n = least(lent.len(), BYTES_MOST);
+    let mut i = 0;
+    while i < n {
+        io::print_decimal(STDOUT_FILENO, wide(lent[i]));
+        i += 1;
+    }
+}
+
+// The first of the lent entries.
+pub fn table(lent: &[u32]) {
+    io::write_all(STDOUT_FILENO, b" table");
+    let n = least(lent.len(), ENTRIES_MOST);
+    let mut i = 0;
+    while i < n {
+        number(b" ", wide_entry(lent[i]));
+        i += 1;
+    }
+}
+
+fn wide(n: u8) -> u64 {
+    n as u64
+}
+
+fn wide_entry(n: u32) -> u64 {
+    n as u64
+}
+
+fn least(a: usize, b: usize) -> usize
+    ensures { λ r. ⌜ r ≤ a ⌝ }
+{
+    if a < b { a } else { b }
+}
