@@ -1,4 +1,5 @@
 // The cases that add a block to a packet. A number that its field cannot hold is no case.
+use crate::form::AddingWord;
 use crate::show;
 use block::Block;
 use block::DiscardSummary;
@@ -7,15 +8,14 @@ use block::LossSummary;
 use block::Measurement;
 use block::StreamCounts;
 
-// The case with a code, its numbers and the buffer that the packet stands in.
-pub fn run(code: u8, n: &[u32; 16], buffer: &mut [u8]) {
-    match code {
-        7 => measurement(n, buffer),
-        8 => loss(n, buffer),
-        9 => discard(n, buffer),
-        10 => effective(n, buffer),
-        11 => streams(n, buffer),
-        _ => show::no_case(),
+// The case of a word, with its numbers and the buffer that the packet stands in.
+pub fn run(word: AddingWord, n: &[u32; 16], buffer: &mut [u8]) {
+    match word {
+        AddingWord::Measurement => measurement(n, buffer),
+        AddingWord::Loss => loss(n, buffer),
+        AddingWord::Discard => discard(n, buffer),
+        AddingWord::Effective => effective(n, buffer),
+        AddingWord::Streams => streams(n, buffer),
     }
 }
 

@@ -1,48 +1,84 @@
 // The words and their forms: how many numbers a word takes, what its data is and which numbers are sizes.
 ghost use Prim.Native.Nat.{_≤_};
 
-// A word's code, the count of its numbers, the kind of its data and whether it lends a buffer. The last number
-// is the size of the data where that has one, and the last before it the room that is lent.
+// The words, in the groups that modules run.
+pub enum Word {
+    Packet(PacketWord),
+    Adding(AddingWord),
+    Trace(TraceWord),
+    Tally(TallyWord),
+    None,
+}
+
+pub enum PacketWord {
+    Read,
+    Block,
+    Body,
+    List,
+    Alone,
+    New,
+}
+
+pub enum AddingWord {
+    Measurement,
+    Loss,
+    Discard,
+    Effective,
+    Streams,
+}
+
+pub enum TraceWord {
+    Card,
+    Write,
+    Figures,
+    Loss,
+    Plan,
+}
+
+pub enum TallyWord {
+    Give,
+    Close,
+    Take,
+}
+
+// What follows the numbers: nothing, hexadecimal bytes, a trace, or text as it stands.
+pub enum Data {
+    Nothing,
+    Bytes,
+    Trace,
+    Text,
+}
+
+// A word, the count of its numbers, its data and whether it lends bytes. The last number is the size of bytes or
+// of a trace, and the last before it the room that is lent.
 pub struct Form {
-    pub code: u8,
+    pub word: Word,
     pub numbers: usize,
-    pub data: u8,
+    pub data: Data,
     pub lends: bool,
 }
 
-// Kinds of data.
-const NOTHING: u8 = 0;
-
-const BYTES: u8 = 1;
-
-const TRACE: u8 = 2;
-
-const CARD: u8 = 3;
-
-// The first code of the words of cards and traces.
-pub const FIRST_TRACE: u8 = 12;
-
-// The form of a word; code 0 for no word.
+// The form of a word.
 pub fn of(word: &[u8]) -> Form
     ensures { λ r. ⌜ r .numbers ≤ 16 ⌝ }
 {
     if script::same(word, b"read") {
-        return made(1, 1, BYTES, false);
+        return made(Word::Packet(PacketWord::Read), 1, Data::Bytes, false);
     }
     if script::same(word, b"block") {
-        return made(2, 2, BYTES, false);
+        return made(Word::Packet(PacketWord::Block), 2, Data::Bytes, false);
     }
     if script::same(word, b"body") {
-        return made(3, 2, BYTES, false);
+        return made(Word::Packet(PacketWord::Body), 2, Data::Bytes, false);
     }
     if script::same(word, b"list") {
-        return made(4, 2, BYTES, false);
+        return made(Word::Packet(PacketWord::List), 2, Data::Bytes, false);
     }
     if script::same(word, b"alone") {
-        return made(5, 3, BYTES, false);
+        return made(Word::Packet(PacketWord::Alone), 3, Data::Bytes, false);
     }
     if script::same(word, b"new") {
-        return made(6, 2, NOTHING, true);
+        return made(Word::Packet(PacketWord::New), 2, Data::Nothing, true);
     }
     of_adding(word)
 }
@@ -51,19 +87,19 @@ fn of_adding(word: &[u8]) -> Form
     ensures { λ r. ⌜ r .numbers ≤ 16 ⌝ }
 {
     if script::same(word, b"add14") {
-        return made(7, 8, BYTES, false);
+        return made(Word::Adding(AddingWord::Measurement), 8, Data::Bytes, false);
     }
     if script::same(word, b"add17") {
-        return made(8, 7, BYTES, false);
+        return made(Word::Adding(AddingWord::Loss), 7, Data::Bytes, false);
     }
     if script::same(word, b"add18") {
-        return made(9, 5, BYTES, false);
+        return made(Word::Adding(AddingWord::Discard), 5, Data::Bytes, false);
     }
     if script::same(word, b"add240") {
-        return made(10, 3, BYTES, false);
+        return made(Word::Adding(AddingWord::Effective), 3, Data::Bytes, false);
     }
     if script::same(word, b"add241") {
-        return made(11, 13, BYTES, false);
+        return made(Word::Adding(AddingWord::Streams), 13, Data::Bytes, false);
     }
     of_traces(word)
 }
@@ -72,38 +108,38 @@ fn of_traces(word: &[u8]) -> Form
     ensures { λ r. ⌜ r .numbers ≤ 16 ⌝ }
 {
     if script::same(word, b"card") {
-        return made(12, 0, CARD, false);
+        return made(Word::Trace(TraceWord::Card), 0, Data::Text, false);
     }
     if script::same(word, b"write") {
-        return made(13, 5, NOTHING, true);
+        return made(Word::Trace(TraceWord::Write), 5, Data::Nothing, true);
     }
     if script::same(word, b"figures") {
-        return made(14, 4, TRACE, false);
+        return made(Word::Trace(TraceWord::Figures), 4, Data::Trace, false);
     }
     if script::same(word, b"tally") {
-        return made(15, 4, TRACE, false);
+        return made(Word::Tally(TallyWord::Give), 4, Data::Trace, false);
     }
     if script::same(word, b"close") {
-        return made(16, 13, NOTHING, false);
+        return made(Word::Tally(TallyWord::Close), 13, Data::Nothing, false);
     }
     if script::same(word, b"take") {
-        return made(17, 14, NOTHING, false);
+        return made(Word::Tally(TallyWord::Take), 14, Data::Nothing, false);
     }
     if script::same(word, b"loss") {
-        return made(18, 3, TRACE, false);
+        return made(Word::Trace(TraceWord::Loss), 3, Data::Trace, false);
     }
     if script::same(word, b"plan") {
-        return made(19, 4, TRACE, true);
+        return made(Word::Trace(TraceWord::Plan), 4, Data::Trace, true);
     }
-    made(0, 0, CARD, false)
+    made(Word::None, 0, Data::Text, false)
 }
 
-fn made(code: u8, numbers: usize, data: u8, lends: bool) -> Form
+fn made(word: Word, numbers: usize, data: Data, lends: bool) -> Form
     requires { ⌜ numbers ≤ 16 ⌝ }
     ensures { λ r. ⌜ r .numbers ≤ 16 ⌝ }
 {
     Form {
-        code: code,
+        word: word,
         numbers: numbers,
         data: data,
         lends: lends,
@@ -112,7 +148,8 @@ fn made(code: u8, numbers: usize, data: u8, lends: bool) -> Form
 
 // The size of the data.
 pub fn size(form: Form, numbers: &[u32; 16]) -> u32 {
-    if !sized(form.data) {
+    let data = form.data;
+    if !sized(data) {
         return 0;
     }
     from_last(form.numbers, 1, numbers)
@@ -123,14 +160,20 @@ pub fn room(form: Form, numbers: &[u32; 16]) -> u32 {
     if !form.lends {
         return 0;
     }
-    if sized(form.data) {
+    let data = form.data;
+    if sized(data) {
         return from_last(form.numbers, 2, numbers);
     }
     from_last(form.numbers, 1, numbers)
 }
 
-fn sized(data: u8) -> bool {
-    (data == BYTES) | (data == TRACE)
+fn sized(data: Data) -> bool {
+    match data {
+        Data::Nothing => false,
+        Data::Bytes => true,
+        Data::Trace => true,
+        Data::Text => false,
+    }
 }
 
 // The number that stands back from the end of count numbers.

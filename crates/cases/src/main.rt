@@ -10,6 +10,7 @@ mod tallies;
 mod traces;
 
 use form::Form;
+use form::Word;
 use libc::STDOUT_FILENO;
 use parse::Numbers;
 
@@ -91,12 +92,16 @@ fn answer_with(form: Form, numbers: &[u32; 16], text: &[u8]) {
 
 // Reads the data and runs the case.
 fn run(form: Form, numbers: &[u32; 16], text: &[u8], data: &mut [u8], lent: &mut [u8]) {
-    if !parse::data(form.data, text, data) {
+    let kind = form.data;
+    if !parse::read_data(kind, text, data) {
         return show::no_case();
     }
-    if form.code < form::FIRST_TRACE {
-        packets::run(form.code, numbers, data, lent);
-    } else {
-        traces::run(form.code, numbers, text, data, lent);
+    let word = form.word;
+    match word {
+        Word::Packet(w) => packets::run(w, numbers, data, lent),
+        Word::Adding(w) => adding::run(w, numbers, data),
+        Word::Trace(w) => traces::run(w, numbers, text, data, lent),
+        Word::Tally(w) => tallies::run(w, numbers, data),
+        Word::None => show::no_case(),
     }
 }

@@ -1,5 +1,5 @@
 // The cases of packets and blocks.
-use crate::adding;
+use crate::form::PacketWord;
 use crate::show;
 use block::BlockRead;
 use libc::STDOUT_FILENO;
@@ -9,16 +9,15 @@ use packet::PacketHead;
 // The most entries of a case.
 const ENTRIES: u32 = 262_144;
 
-// The case with a code, its numbers, its data and the lent bytes.
-pub fn run(code: u8, n: &[u32; 16], data: &mut [u8], lent: &mut [u8]) {
-    match code {
-        1 => read(data),
-        2 => block_at(n[0], data),
-        3 => body(n[0], data),
-        4 => list(n[0], data),
-        5 => alone(n[0], n[1], data),
-        6 => new_packet(n[0], lent),
-        _ => adding::run(code, n, data),
+// The case of a word, with its numbers, its data and the lent bytes.
+pub fn run(word: PacketWord, n: &[u32; 16], data: &[u8], lent: &mut [u8]) {
+    match word {
+        PacketWord::Read => read(data),
+        PacketWord::Block => block_at(n[0], data),
+        PacketWord::Body => body(n[0], data),
+        PacketWord::List => list(n[0], data),
+        PacketWord::Alone => alone(n[0], n[1], data),
+        PacketWord::New => new_packet(n[0], lent),
     }
 }
 

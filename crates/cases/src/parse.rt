@@ -1,4 +1,5 @@
 // A case's numbers and its data, read from its line.
+use crate::form::Data;
 use script::Byte;
 use script::Number;
 ghost use Prim.Native.Nat.{_≤_};
@@ -32,12 +33,12 @@ pub fn read_numbers(line: &[u8], at: usize, count: usize, out: &mut [u32; 16]) -
 }
 
 // Reads data into a buffer of zeros, and answers whether it is good and fits.
-pub fn data(kind: u8, text: &[u8], out: &mut [u8]) -> bool {
+pub fn read_data(kind: Data, text: &[u8], out: &mut [u8]) -> bool {
     match kind {
-        1 => hexadecimal(text, out),
-        2 => packets(text, out),
-        3 => true,
-        _ => text.len() == 0,
+        Data::Nothing => text.len() == 0,
+        Data::Bytes => hexadecimal(text, out),
+        Data::Trace => packets(text, out),
+        Data::Text => true,
     }
 }
 

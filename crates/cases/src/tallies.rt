@@ -1,4 +1,5 @@
 // The cases of tallies.
+use crate::form::TallyWord;
 use crate::show;
 use bursts::Sums;
 use tally::Answer;
@@ -21,16 +22,15 @@ pub fn event_of(event: u32) -> Counted {
     }
 }
 
-// The case with a code, its numbers and its trace. The first number is the event.
-pub fn run(code: u8, n: &[u32; 16], trace: &[u8]) {
+// The case of a word, with its numbers, of which the first is the event, and its trace.
+pub fn run(word: TallyWord, n: &[u32; 16], trace: &[u8]) {
     let Counted::Of(event) = event_of(n[0]) else {
         return show::no_case();
     };
-    match code {
-        15 => give(event, n[1], n[2], trace),
-        16 => show::measured(made(event, n).close()),
-        17 => take(made(event, n), n[13]),
-        _ => show::no_case(),
+    match word {
+        TallyWord::Give => give(event, n[1], n[2], trace),
+        TallyWord::Close => show::measured(made(event, n).close()),
+        TallyWord::Take => take(made(event, n), n[13]),
     }
 }
 

@@ -1,4 +1,5 @@
 // The cases of cards and traces.
+use crate::form::TraceWord;
 use crate::show;
 use crate::tallies;
 use crate::tallies::Counted;
@@ -8,15 +9,14 @@ use card::CardRead;
 use resend::Planned;
 use settings::Settings;
 
-// The case with a code, its numbers, its text, its data and the lent bytes.
-pub fn run(code: u8, n: &[u32; 16], text: &[u8], data: &[u8], lent: &mut [u8]) {
-    match code {
-        12 => read_card(text),
-        13 => write_card(n, lent),
-        14 => figures(n[0], n[1], n[2], data),
-        18 => loss(n[0], n[1], data),
-        19 => plan(n[0], n[1], data, lent),
-        _ => tallies::run(code, n, data),
+// The case of a word, with its numbers, its text, its data and the lent bytes.
+pub fn run(word: TraceWord, n: &[u32; 16], text: &[u8], data: &[u8], lent: &mut [u8]) {
+    match word {
+        TraceWord::Card => read_card(text),
+        TraceWord::Write => write_card(n, lent),
+        TraceWord::Figures => figures(n[0], n[1], n[2], data),
+        TraceWord::Loss => loss(n[0], n[1], data),
+        TraceWord::Plan => plan(n[0], n[1], data, lent),
     }
 }
 
