@@ -11,11 +11,6 @@ const BYTES_MOST: usize = 64;
 
 const ENTRIES_MOST: usize = 16;
 
-// Of 16-bit figures: over range, and unavailable.
-const OVER: u16 = 65_534;
-
-const UNAVAILABLE: u16 = 65_535;
-
 pub fn no_case() {
     word(b"no case");
 }
@@ -55,17 +50,11 @@ fn figures(f: Figures) {
     figure(b" var ", f.burst_variance);
 }
 
+// A figure as a listing has it.
 fn figure(label: &[u8], n: u16) {
-    io::write_all(STDOUT_FILENO, label);
-    if n == OVER {
-        io::write_all(STDOUT_FILENO, b"over");
-        return;
-    }
-    if n == UNAVAILABLE {
-        io::write_all(STDOUT_FILENO, b"none");
-        return;
-    }
-    io::print_decimal(STDOUT_FILENO, n as u64);
+    let mut page = [0u8; 64];
+    let end = lines::put_figure(&mut page, 0, label, n);
+    io::write_all(STDOUT_FILENO, &page[..end]);
 }
 
 // The first of the lent bytes in hexadecimal.

@@ -1,5 +1,6 @@
 // The lines of a packet's listing: document 01, "Sheet of examples". Each call puts one line into a page from
-// position at on, its newline too, and answers where it ends. A line is never longer than LINE bytes.
+// position at on, its newline too, and answers where it ends; a figure can be put by itself. A line is never
+// longer than LINE bytes.
 use block::Block;
 use block::BlockRead;
 use block::DiscardSummary;
@@ -179,7 +180,7 @@ fn put_source(page: &mut [u8], at: usize, label: &[u8], n: u32) -> usize
 }
 
 // A label and a figure: a number, over range, or none.
-fn put_figure(page: &mut [u8], at: usize, label: &[u8], n: u16) -> usize
+pub fn put_figure(page: &mut [u8], at: usize, label: &[u8], n: u16) -> usize
     ensures answer { λ r. ⌜ r ≡ endAt (now (page .entry)) at (figure (now (label .entry)) n) ⌝ }
     ensures buffer { λ r. ⌜ now (page .exit) ≡ placed (now (page .entry)) at (figure (now (label .entry)) n) ⌝ }
 {

@@ -1,5 +1,4 @@
 -- `cases::packets::line` meets its contract: it is safe. Assumes nothing.
-use Prim.Native.Nat.{zero-le}
 use mathlib.Core.Path.{sym}
 use native.Mathlib.Omega.{arith}
 use lib.Seq.{length-take-le}
