@@ -146,6 +146,15 @@ fn made(word: Word, numbers: usize, data: Data, lends: bool) -> Form
     }
 }
 
+// Whether the data is text as it stands.
+pub fn takes_text(form: Form) -> bool {
+    let data = form.data;
+    match data {
+        Data::Text => true,
+        _ => false,
+    }
+}
+
 // The size of the data.
 pub fn size(form: Form, numbers: &[u32; 16]) -> u32 {
     let data = form.data;

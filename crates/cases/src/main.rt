@@ -55,22 +55,22 @@ fn show_line(line: &[u8]) {
     io::write_all(STDOUT_FILENO, b"\n");
 }
 
-// Takes a case apart.
+// Takes a case apart. A space stands before data, so only a card's empty text may follow one.
 fn answer(line: &[u8]) {
     let end = script::end_of(line, 0, b' ');
     let form = form::of(&line[..end]);
     let mut numbers = [0u32; 16];
-    match parse::read_numbers(line, end, form.numbers, &mut numbers) {
-        Numbers::End(at) => {
-            if at < line.len() {
-                let start = at + 1;
-                answer_with(form, &numbers, &line[start..]);
-            } else {
-                answer_with(form, &numbers, &line[..0]);
-            }
-        }
-        Numbers::None => show::no_case(),
+    let Numbers::End(at) = parse::read_numbers(line, end, form.numbers, &mut numbers) else {
+        return show::no_case();
+    };
+    if line.len() <= at {
+        return answer_with(form, &numbers, &line[..0]);
     }
+    let start = at + 1;
+    if (start == line.len()) & !form::takes_text(form) {
+        return show::no_case();
+    }
+    answer_with(form, &numbers, &line[start..]);
 }
 
 // Makes the case's buffers.
