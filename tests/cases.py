@@ -1,0 +1,225 @@
+#!/usr/bin/env python3
+"""Runs target/bin/cases on crates/cases/stdin and compares what it writes with text computed by tests/document01.py.
+
+Run in the repository's root after `rt check cases`. Prints each line that differs and exits with status 1, or one line.
+`--print` writes the computed text instead, for which the program is not needed. A case is a word, its numbers and its data
+(NUMBERS below); a line that is empty or a comment is copied.
+"""
+import os
+import pathlib
+import subprocess
+import sys
+
+sys.dont_write_bytecode = True  # a run leaves no files in the tree
+import document01
+from document01 import Refused
+
+PROGRAM = os.environ.get("CASES", "target/bin/cases")
+LIST = pathlib.Path("crates/cases/stdin")
+MOST_TEXT = 65536
+SHOWN_BYTES, SHOWN_ENTRIES = 64, 16
+HELD = 7  # what each lent byte or entry holds before the call
+
+# The greatest number that a field holds, by the field's name; any other field holds 32 bits.
+LIMITS = {"type": 255, "specific": 255, "flag": 255, "packet": 255, "first": 65535, "begin": 65535, "end": 65535,
+          "burst": 65535, "gap": 65535, "mean": 65535, "var": 65535, "index": 65535, "LEN": 262144, "ROOM": 262144}
+TALLY = "event gmin spacing E L Eb Lb n S Q events packets since"
+# The fields of each word, then the kind of its data, if it takes any.
+NUMBERS = {
+    "read": ("LEN", "bytes"), "block": ("k LEN", "bytes"), "body": ("k LEN", "bytes"), "list": ("ROOM LEN", "bytes"),
+    "alone": ("type specific LEN", "bytes"), "new": ("sender ROOM", None),
+    "add14": ("source first efirst elast interval seconds fraction LEN", "bytes"),
+    "add17": ("flag source burst gap mean var LEN", "bytes"), "add18": ("flag source burst gap LEN", "bytes"),
+    "add240": ("source index LEN", "bytes"),
+    "add241": ("source begin end streams c1 c2 c3 c4 c5 c6 c7 c8 LEN", "bytes"),
+    "card": ("", "card"), "write": ("gmin batch threshold spacing ROOM", None),
+    "figures": ("event gmin spacing LEN", "trace"), "tally": ("event gmin spacing LEN", "trace"),
+    "close": (TALLY, None), "take": (TALLY + " packet", None),
+    "loss": ("B T LEN", "trace"), "plan": ("B T ROOM LEN", "trace"),
+}
+# Type, whether a flag comes first, where the rates stand, and the words after the first as struct has them.
+LAYOUTS = {"add14": (14, False, (), "I2xHIIIII"), "add17": (17, True, (2, 3), "IHHHH"), "add18": (18, True, (2, 3), "IHH"),
+           "add240": (240, False, (), "IH2x"), "add241": (241, False, (), "IHHI8I")}
+
+
+class NoCase(Exception):
+    pass
+
+
+def no_case_if(condition):
+    if condition:
+        raise NoCase
+
+
+def parsed(line):
+    """The word, its numbers and its data as bytes."""
+    word, *rest = line.split(" ", 1)
+    no_case_if(word not in NUMBERS)
+    fields, kind = NUMBERS[word]
+    numbers = []
+    for field in fields.split():
+        no_case_if(not rest)
+        digits, *rest = rest[0].split(" ", 1)
+        no_case_if(not digits.isascii() or not digits.isdigit() or int(digits) > LIMITS.get(field, 4294967295))
+        no_case_if(field == "event" and int(digits) not in (1, 2))
+        numbers.append(int(digits))
+    text = rest[0] if rest else ""
+    if kind is None:
+        no_case_if(rest)
+        return word, numbers, b""
+    if kind == "card":
+        return word, numbers, text.encode("latin-1")
+    no_case_if(rest and not text)
+    data = trace_data(text) if kind == "trace" else hexadecimal(text)
+    no_case_if(len(data) > numbers[-1])
+    return word, numbers, data + bytes(numbers[-1] - len(data))
+
+
+def trace_data(text):
+    no_case_if(any(digit not in "0123456789" for digit in text))
+    return bytes(int(digit) for digit in text)
+
+
+def hexadecimal(text):
+    no_case_if(len(text) % 2 or any(digit not in "0123456789abcdef" for digit in text))
+    return bytes.fromhex(text)
+
+
+def shown(word, texts, between):
+    return (f" {word} " + between.join(texts)).rstrip()
+
+
+def shown_bytes(some):
+    return shown("bytes", [f"{byte:02x}" for byte in some[:SHOWN_BYTES]], "")
+
+
+def shown_plan(some):
+    return shown("plan", [str(byte) for byte in some[:SHOWN_BYTES]], "")
+
+
+def shown_table(some):
+    return shown("table", [str(entry) for entry in some[:SHOWN_ENTRIES]], " ")
+
+
+def filled(lent, call, answer, show):
+    """A call that fills the lent numbers from the front: its answer or refusal, and what they then hold."""
+    try:
+        front = list(call())
+        return answer(front) + show(front + lent[len(front):])
+    except Refused as no:
+        return f"refused {no.number} at {no.place}" + show(lent)
+
+
+def size_of(front):
+    return f"size {len(front)}"
+
+
+def adding(word, numbers, buffer):
+    kind, flagged, rates_at, layout = LAYOUTS[word]
+    flag = numbers[0] if flagged else 0
+    rates = [numbers[at] for at in rates_at]
+    fields = numbers[flagged:-1]
+    return filled(list(buffer), lambda: document01.added(buffer, kind, flag, rates, layout, fields), size_of, shown_bytes)
+
+
+def lending(word, numbers, data):
+    """The cases that lend a buffer or an array."""
+    if word in LAYOUTS:
+        return adding(word, numbers, data)
+    if word == "new":
+        return filled([HELD] * numbers[1], lambda: document01.new_packet(*numbers), size_of, shown_bytes)
+    if word == "write":
+        return filled([HELD] * numbers[4], lambda: document01.written_card(numbers[:4], numbers[4]), size_of, shown_bytes)
+    if word == "list":
+        return filled([HELD] * numbers[0], lambda: document01.places_and_verdicts(data, numbers[0]),
+                      lambda front: f"entries {len(front)}", shown_table)
+    batch, threshold, room, _ = numbers
+    return filled([HELD] * room, lambda: document01.plan(batch, threshold, data, room),
+                  lambda front: f"marks {sum(front)}", shown_plan)
+
+
+def asking(word, numbers, data):
+    """The cases that lend nothing."""
+    if word == "read":
+        return document01.read(data)
+    if word == "block":
+        return document01.block(numbers[0], data)
+    if word == "body":
+        return "body at {} bytes {}".format(*document01.body_part(numbers[0], data))
+    if word == "alone":
+        return document01.alone(numbers[0], numbers[1], data)
+    if word == "card":
+        return document01.card(data)
+    if word == "loss":
+        return document01.loss(numbers[0], numbers[1], data)
+    if word == "figures":
+        return document01.figures(*numbers[:3], data)
+    if word == "tally":
+        return document01.tally(*numbers[:3], data)
+    if word == "close":
+        return document01.close(numbers[1], numbers[2], numbers[3:])
+    return "taken " + " ".join(str(count) for count in document01.take(*numbers[:3], numbers[3:13], numbers[13]))
+
+
+def answer(line):
+    try:
+        word, numbers, data = parsed(line)
+        if word in LAYOUTS or word in ("new", "write", "list", "plan"):
+            return lending(word, numbers, data)
+        return asking(word, numbers, data)
+    except NoCase:
+        return "no case"
+    except Refused as no:
+        return f"refused {no.number} at {no.place}"
+
+
+def is_case(line):
+    return line != "" and not line.startswith("#")
+
+
+def computed(text):
+    """What the program has to write for this text, line by line."""
+    if len(text) > MOST_TEXT:
+        return ["too long"]
+    lines = []
+    for line in text.decode("latin-1").removesuffix("\n").split("\n"):
+        lines.append(line)
+        if is_case(line):
+            lines.append("  " + answer(line))
+    return lines
+
+
+def compare(text, expected):
+    if not os.path.exists(PROGRAM):
+        print(f"cases: {PROGRAM} is not there; `rt check cases` makes it")
+        return 1
+    ours = subprocess.run([PROGRAM], input=text, stdout=subprocess.PIPE, check=True).stdout.decode("latin-1").split("\n")
+    wanted = expected + [""]  # the text ends in a newline
+    cases = different = 0
+    for at in range(max(len(ours), len(wanted))):
+        mine = ours[at] if at < len(ours) else "(no line)"
+        other = wanted[at] if at < len(wanted) else "(no line)"
+        answers_case = other.startswith("  ")
+        cases += answers_case
+        if mine != other:
+            different += 1
+            above = f" (answer to: {wanted[at - 1][:200]})" if answers_case else ""
+            print(f"line {at + 1}{above}\n  ours:     {mine}\n  expected: {other}")
+    if different:
+        print(f"cases: {different} lines differ")
+        return 1
+    print(f"cases: {cases} of {cases} the same")
+    return 0
+
+
+def main():
+    text = LIST.read_bytes()
+    expected = computed(text)
+    if sys.argv[1:] == ["--print"]:
+        sys.stdout.write("\n".join(expected) + "\n")
+        return 0
+    return compare(text, expected)
+
+
+if __name__ == "__main__":
+    sys.exit(main())

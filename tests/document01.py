@@ -1,0 +1,365 @@
+"""Document 01 computed a second time, by its definitions alone, for tests/cases.py.
+
+Each function answers as the paper's paragraph of its name has it; a call that says no raises Refused with the number and
+place of the table "When the set says no". Speed does not matter here: plans are searched for, batches counted one by one.
+"""
+import heapq
+import itertools
+import struct
+
+WORDS = {14: 7, 17: 3, 18: 2, 240: 2, 241: 11}
+UNAVAILABLE, OVER_RANGE, GREATEST = 65535, 65534, 65533
+MOST_PACKETS = 65536
+MOST_DURATION = 2621440
+
+
+class Refused(Exception):
+    def __init__(self, number, place=0):
+        super().__init__(number, place)
+        self.number, self.place = number, place
+
+
+def refuse_if(condition, number, place=0):
+    if condition:
+        raise Refused(number, place)
+
+
+def number_at(some, start, size):
+    return int.from_bytes(some[start:start + size], "big")
+
+
+# The packet
+
+def packet_blocks(packet, room=None):
+    """The blocks as (offset, type, type-specific byte, body). With a room, the packet is the front of a buffer to add to."""
+    refuse_if(len(packet) < 8, 1)
+    refuse_if(packet[0] // 64 != 2, 2)
+    refuse_if(packet[1] != 207, 3)
+    size = 4 * (number_at(packet, 2, 2) + 1)
+    if room is None:
+        refuse_if(size != len(packet), 4)
+    else:
+        refuse_if(size > room or size < 8, 4)
+    refuse_if(packet[0] // 32 % 2 == 1, 5)
+    blocks, at = [], 8
+    while at < size:
+        end = at + 4 + 4 * number_at(packet, at + 2, 2)
+        refuse_if(end > size, 6, at)
+        blocks.append((at, packet[at], packet[at + 1], packet[at + 4:end]))
+        at = end
+    return blocks
+
+
+def read(packet):
+    blocks = packet_blocks(packet)
+    return f"ssrc {packet[4:8].hex()} blocks {len(blocks)}"
+
+
+def measured_sources(blocks):
+    return {body[:4] for _, kind, _, body in blocks if kind == 14 and len(body) == 28}
+
+
+def reason(kind, specific, body, sources):
+    """The number of the first reason to drop a listed block, or 0. Sources are None where a block is read by itself."""
+    if len(body) != 4 * WORDS[kind]:
+        return 1
+    if kind not in (17, 18):
+        return 0
+    if specific // 64 == 0:
+        return 2
+    if any(32768 < number_at(body, at, 2) < 65535 for at in (4, 6)):
+        return 3
+    if sources is not None and body[:4] not in sources:
+        return 4
+    return 0
+
+
+def figure(number):
+    return {UNAVAILABLE: "none", OVER_RANGE: "over"}.get(number, str(number))
+
+
+def typed_text(kind, specific, body):
+    source = "source " + body[:4].hex()
+    halves = [number_at(body, at, 2) for at in range(0, len(body), 2)]
+    words = [number_at(body, at, 4) for at in range(0, len(body), 4)]
+    if kind == 14:
+        return (f"meas {source} first {halves[3]} efirst {words[2]} elast {words[3]} interval {words[4]} "
+                f"seconds {words[5]} fraction {words[6]}")
+    if kind == 240:
+        return f"eli {source} index {halves[2]}"
+    if kind == 241:
+        begin, end = halves[2], halves[3]
+        counts = " ".join(str(word) for word in words[3:])
+        return f"ts {source} begin {begin} end {end} packets {(end - begin) % 65536} streams {words[2]} counts {counts}"
+    rates = f"burst {figure(halves[2])} gap {figure(halves[3])}"
+    if kind == 18:
+        return f"discard {source} i {specific // 64} {rates}"
+    return f"loss {source} i {specific // 64} {rates} mean {figure(halves[4])} var {figure(halves[5])}"
+
+
+def block_text(kind, specific, body, sources):
+    if kind not in WORDS:
+        return f"unknown type {kind} bytes {len(body)}"
+    why = reason(kind, specific, body, sources)
+    return f"dropped type {kind} reason {why}" if why else typed_text(kind, specific, body)
+
+
+def block(index, packet):
+    blocks = packet_blocks(packet)
+    refuse_if(index >= len(blocks), 7)
+    _, kind, specific, body = blocks[index]
+    return f"{index} " + block_text(kind, specific, body, measured_sources(blocks))
+
+
+def alone(kind, specific, body):
+    return "0 " + block_text(kind, specific, body, None)
+
+
+def body_part(index, packet):
+    """Where the body of a block stands and its size; both 0 where the block is refused."""
+    try:
+        blocks = packet_blocks(packet)
+        refuse_if(index >= len(blocks), 7)
+    except Refused:
+        return 0, 0
+    return blocks[index][0] + 4, len(blocks[index][3])
+
+
+def places_and_verdicts(packet, room):
+    """Two numbers a block: its offset, and 0 typed, 1 to 4 dropped, 255 unknown."""
+    blocks = packet_blocks(packet)
+    refuse_if(room < 2 * len(blocks), 8)
+    sources = measured_sources(blocks)
+    entries = []
+    for at, kind, specific, words in blocks:
+        entries += [at, reason(kind, specific, words, sources) if kind in WORDS else 255]
+    return entries
+
+
+# Writing
+
+def new_packet(sender, room):
+    refuse_if(room < 8, 8)
+    return struct.pack(">BBHI", 128, 207, 1, sender)
+
+
+def block_bytes(kind, flag, layout, numbers):
+    """A block from the numbers of its layout, as struct has it; 2x stands for 16 reserved bits."""
+    return struct.pack(">BBH", kind, flag * 64, WORDS[kind]) + struct.pack(">" + layout, *numbers)
+
+
+def added(buffer, kind, flag, rates, layout, numbers):
+    """The packet at the front of the buffer with one block more."""
+    packet_blocks(buffer, len(buffer))
+    if kind in (17, 18):
+        refuse_if(flag not in (1, 2, 3) or any(32768 < rate < 65535 for rate in rates), 16)
+    size = 4 * (number_at(buffer, 2, 2) + 1)
+    length = number_at(buffer, 2, 2) + 1 + WORDS[kind]
+    refuse_if(length > 65535, 17)
+    refuse_if(4 * (length + 1) > len(buffer), 8)
+    front = buffer[:2] + struct.pack(">H", length) + buffer[4:size]
+    return front + block_bytes(kind, flag, layout, numbers)
+
+
+# The trace and its figures
+
+def burst_settings(gmin, spacing):
+    refuse_if(not (1 <= gmin <= 255 and 1 <= spacing <= 40000), 15)
+
+
+def batch_settings(batch, threshold):
+    refuse_if(not (1 <= batch <= 1024 and 0 <= threshold <= 1024), 15)
+
+
+def accepted(trace):
+    refuse_if(not 1 <= len(trace) <= MOST_PACKETS, 10)
+    for place, packet in enumerate(trace):
+        refuse_if(packet > 2, 9, place)
+
+
+def groups(positions, gmin):
+    """Positions of events cut where at least Gmin packets stand between two."""
+    cut = []
+    for at in positions:
+        if cut and at - cut[-1][-1] - 1 < gmin:
+            cut[-1].append(at)
+        else:
+            cut.append([at])
+    return cut
+
+
+def duration(packets, spacing):
+    return packets * spacing // 1000
+
+
+def sums(trace, event, gmin, spacing):
+    """E, L, Eb, Lb, n, S, Q of a trace."""
+    positions = [at for at, packet in enumerate(trace) if packet == event]
+    bursts = [group for group in groups(positions, gmin) if len(group) >= 2]
+    lengths = [group[-1] - group[0] + 1 for group in bursts]
+    times = [duration(length, spacing) for length in lengths]
+    return (len(trace), len(positions), sum(lengths), sum(map(len, bursts)), len(bursts), sum(times),
+            sum(time * time for time in times))
+
+
+def figures_of(E, L, Eb, Lb, n, S, Q):
+    burst = Lb * 32768 // Eb if Eb else UNAVAILABLE
+    gap = (L - Lb) * 32768 // (E - Eb) if E != Eb else UNAVAILABLE
+    mean = variance = UNAVAILABLE
+    if n:
+        m = S // n
+        v = Q // n - m * m
+        mean = m if m <= GREATEST else OVER_RANGE
+        variance = v if v <= GREATEST else OVER_RANGE
+    return f"burst {figure(burst)} gap {figure(gap)} mean {figure(mean)} var {figure(variance)}"
+
+
+def figures(event, gmin, spacing, trace):
+    burst_settings(gmin, spacing)
+    accepted(trace)
+    return figures_of(*sums(trace, event, gmin, spacing))
+
+
+# A tally: E, L, Eb, Lb, n, S, Q over closed bursts, then events, packets and packets since of the open stretch
+
+def tally(event, gmin, spacing, trace):
+    """A tally opened, given each packet and closed, by what its closing has to equal: the formulas over the trace."""
+    burst_settings(gmin, spacing)
+    refuse_if(any(packet > 2 for packet in trace[:MOST_PACKETS]), 9)
+    refuse_if(len(trace) > MOST_PACKETS, 10)
+    return figures_of(*sums(trace, event, gmin, spacing))
+
+
+def with_stretch(spacing, counts):
+    """E to Q with the open stretch counted in: two or more events are one more burst."""
+    E, L, Eb, Lb, n, S, Q, events, packets, _ = counts
+    if events < 2:
+        return E, L, Eb, Lb, n, S, Q
+    time = duration(packets, spacing)
+    return E, L, Eb + packets, Lb + events, n + 1, S + time, Q + time * time
+
+
+def sound(gmin, spacing, counts):
+    E, L, Eb, Lb, n, S, Q = with_stretch(spacing, counts)
+    m = S // n if n else 0
+    return all((
+        1 <= gmin <= 255 and 1 <= spacing <= 40000,
+        E <= MOST_PACKETS,
+        Eb <= E,
+        Lb <= Eb,
+        Lb <= L,
+        L - Lb <= E - Eb,
+        2 * n <= Eb,
+        all(count <= E for count in counts[7:]),
+        S <= MOST_DURATION,
+        Q <= S * S,
+        n == 0 or Q // n >= m * m,
+    ))
+
+
+def close(gmin, spacing, counts):
+    refuse_if(not sound(gmin, spacing, counts), 15)
+    return figures_of(*with_stretch(spacing, counts))
+
+
+def take(event, gmin, spacing, counts, packet):
+    """The ten counts after one packet more."""
+    refuse_if(not sound(gmin, spacing, counts), 15)
+    refuse_if(counts[0] == MOST_PACKETS, 10)
+    refuse_if(packet > 2, 9)
+    E, L, Eb, Lb, n, S, Q, events, packets, since = counts
+    if packet != event:
+        return E + 1, L, Eb, Lb, n, S, Q, events, packets, since + 1
+    if events and since < gmin:
+        return E + 1, L + 1, Eb, Lb, n, S, Q, events + 1, packets + since + 1, 0
+    _, _, Eb, Lb, n, S, Q = with_stretch(spacing, counts)
+    return E + 1, L + 1, Eb, Lb, n, S, Q, 1, 1, 0
+
+
+# Effective loss and the plan
+
+def batch_trace(batch, threshold, trace):
+    batch_settings(batch, threshold)
+    accepted(trace)
+    refuse_if(batch > len(trace), 14)
+
+
+def loss(batch, threshold, trace):
+    batch_trace(batch, threshold, trace)
+    N = len(trace) - batch + 1
+    over = [at for at in range(N) if trace.count(1, at, at + batch) > threshold]
+    return f"over {len(over)} of {N} index {len(over) * 65535 // N} first {over[0] if over else 'none'}"
+
+
+def plan(batch, threshold, trace, room):
+    """Demand 3's plan, by search where the trace is short, and by shortest paths."""
+    batch_trace(batch, threshold, trace)
+    refuse_if(room < len(trace), 8)
+    found = by_paths(batch, threshold, trace)
+    if len(trace) <= 16 and by_search(batch, threshold, trace) != found:
+        raise AssertionError(f"two plans for {batch} {threshold} {list(trace)}")
+    return found
+
+
+def by_search(batch, threshold, trace):
+    """All plans that mark lost packets only, fewest marks first: of the first that leave no batch over the threshold, the
+    one that has no mark where another first differs from it, which is the least as a list."""
+    lost = [at for at, packet in enumerate(trace) if packet == 1]
+    batches = [set(range(at, at + batch)) for at in range(len(trace) - batch + 1)]
+    for count in range(len(lost) + 1):
+        good = []
+        for marks in itertools.combinations(lost, count):
+            left = set(lost) - set(marks)
+            if all(len(left & some) <= threshold for some in batches):
+                good.append(bytes(at in marks for at in range(len(trace))))
+        if good:
+            return min(good)
+
+
+def by_paths(batch, threshold, trace):
+    """Let x(i) be the losses left without a mark among the first i packets. A plan is good exactly when x(0) = 0,
+    0 <= x(i + 1) - x(i) <= 1 for a lost packet i and 0 for another, and x(i + B) - x(i) <= T. Such differences have a
+    greatest solution, the distances from 0 over steps of these lengths: it leaves most losses in all, and in each prefix."""
+    size = len(trace)
+    distance = [None] * (size + 1)
+    waiting = [(0, 0)]
+    while waiting:
+        so_far, at = heapq.heappop(waiting)
+        if distance[at] is not None:
+            continue
+        distance[at] = so_far
+        if at > 0:
+            heapq.heappush(waiting, (so_far, at - 1))
+        if at < size:
+            heapq.heappush(waiting, (so_far + (trace[at] == 1), at + 1))
+        if at + batch <= size:
+            heapq.heappush(waiting, (so_far + threshold, at + batch))
+    left = [distance[at + 1] - distance[at] for at in range(size)]
+    return bytes((trace[at] == 1) - left[at] for at in range(size))
+
+
+# The settings card
+
+RANGES = ((1, 255), (1, 1024), (0, 1024), (1, 40000))
+
+
+def in_range(settings):
+    return all(low <= value <= high for value, (low, high) in zip(settings, RANGES))
+
+
+def card(text):
+    refuse_if(len(text) != 20 or any(not 48 <= byte <= 57 for byte in text), 11)
+    refuse_if(int(text) % 97 != 1 or text[18:] in (b"00", b"01", b"99"), 12)
+    settings = [int(text[start:end]) for start, end in ((0, 3), (3, 8), (8, 13), (13, 18))]
+    refuse_if(not in_range(settings), 13)
+    return "gmin {} batch {} threshold {} spacing {}".format(*settings)
+
+
+def written_card(settings, room):
+    """The one card of the settings: the check is sought among all."""
+    refuse_if(not in_range(settings), 15)
+    refuse_if(room < 20, 8)
+    payload = "{:03}{:05}{:05}{:05}".format(*settings)
+    checks = [check for check in range(2, 99) if int(f"{payload}{check:02}") % 97 == 1]
+    assert len(checks) == 1
+    return f"{payload}{checks[0]:02}".encode()
