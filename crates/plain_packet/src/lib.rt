@@ -52,6 +52,9 @@ const NONE: Refusal = Refusal {
 
 const NOTHING: usize = 0;
 
+// Of a refused call: 0 would read as typed.
+const NO_VERDICT: u32 = survey::UNKNOWN as u32;
+
 const NO_FIELDS: [u32; 13] = [0; 13];
 
 const NO_SETTINGS: Settings = Settings {
@@ -225,7 +228,7 @@ pub fn block_out(b: BlockAt) -> BlockFields
         BlockAt::Refused(refusal) => BlockFields {
             refusal,
             kind: 0,
-            verdict: survey::UNKNOWN as u32,
+            verdict: NO_VERDICT,
             fields: NO_FIELDS,
         },
     }

@@ -12,9 +12,6 @@ read-out-requires c κs = search needs
 enum-known-b-2 : tie.Need-enum-known-b-2
 enum-known-b-2 c = search needs
 
-cast-t6 : tie.Need-cast-t6
-cast-t6 c = search needs
-
 returns : tie.Need-returns
 returns c = rw (c .before .before .b .given .1) (c .read-out .ensures)
 
@@ -23,4 +20,4 @@ returns-2 c = rw (c .before .b2 .given .1)
 
 pub block-out-spec : {M : Type 1} → statement M
 block-out-spec =
-    tie.close (tie.spec enum-known-b read-out-requires enum-known-b-2 cast-t6 returns returns-2)
+    tie.close (tie.spec enum-known-b read-out-requires enum-known-b-2 returns returns-2)
