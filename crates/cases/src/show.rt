@@ -53,7 +53,7 @@ fn figures(f: Figures) {
 // A figure as a listing has it.
 fn figure(label: &[u8], n: u16) {
     let mut page = [0u8; 64];
-    let end = lines::put_figure(&mut page, 0, label, n);
+    let end = fields::put_figure(&mut page, 0, label, n);
     io::write_all(STDOUT_FILENO, &page[..end]);
 }
 

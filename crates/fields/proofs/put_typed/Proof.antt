@@ -1,10 +1,10 @@
--- `lines::put_typed` meets its contract. Assumes nothing.
+-- `fields::put_typed` meets its contract. Assumes nothing.
 use mathlib.Core.Path.{sym, ap}
 use borrow.Author.Needs.{needs}
 use Rattle.text.proofs.Joined.{same-text, keeps-length}
-use Rattle.lines.specs.Lines.{typedText}
-use Rattle.lines.proofs.put_typed.Statement.{statement}
-use Rattle.lines.proofs.put_typed.Tie as tie
+use Rattle.fields.specs.Fields.{typedText}
+use Rattle.fields.proofs.put_typed.Statement.{statement}
+use Rattle.fields.proofs.put_typed.Tie as tie
 
 enum-known-block : tie.Need-enum-known-block
 enum-known-block c = search needs

@@ -1,9 +1,9 @@
--- `lines::put_measurement` meets its contract. Assumes nothing.
+-- `fields::put_measurement` meets its contract. Assumes nothing.
 use borrow.Author.Needs.{needs}
 use Rattle.text.proofs.Joined.{joined, keeps-length}
-use Rattle.lines.specs.Lines.{measurementText}
-use Rattle.lines.proofs.put_measurement.Statement.{statement}
-use Rattle.lines.proofs.put_measurement.Tie as tie
+use Rattle.fields.specs.Fields.{measurementText}
+use Rattle.fields.proofs.put_measurement.Statement.{statement}
+use Rattle.fields.proofs.put_measurement.Tie as tie
 
 slice-aggregate-put-source : tie.Need-slice-aggregate-put-source
 slice-aggregate-put-source c = search needs

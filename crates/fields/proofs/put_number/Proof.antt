@@ -1,9 +1,9 @@
--- `lines::put_number` meets its contract. Assumes nothing.
+-- `fields::put_number` meets its contract. Assumes nothing.
 use borrow.Author.Needs.{needs}
 use Rattle.text.proofs.Joined.{joined, keeps-length}
-use Rattle.lines.specs.Lines.{number}
-use Rattle.lines.proofs.put_number.Statement.{statement}
-use Rattle.lines.proofs.put_number.Tie as tie
+use Rattle.fields.specs.Fields.{number}
+use Rattle.fields.proofs.put_number.Statement.{statement}
+use Rattle.fields.proofs.put_number.Tie as tie
 
 put-requires : tie.Need-put-requires
 put-requires c κs = search needs

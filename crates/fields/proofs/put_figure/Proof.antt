@@ -1,10 +1,10 @@
--- `lines::put_figure` meets its contract. Assumes nothing.
+-- `fields::put_figure` meets its contract. Assumes nothing.
 use native.Mathlib.Omega.{arith}
 use borrow.Author.Needs.{needs}
 use Rattle.text.proofs.Joined.{joined, same-text, keeps-length}
-use Rattle.lines.proofs.Figures.{figure-over, figure-none, figure-number}
-use Rattle.lines.proofs.put_figure.Statement.{statement}
-use Rattle.lines.proofs.put_figure.Tie as tie
+use Rattle.fields.proofs.Figures.{figure-over, figure-none, figure-number}
+use Rattle.fields.proofs.put_figure.Statement.{statement}
+use Rattle.fields.proofs.put_figure.Tie as tie
 
 put-requires : tie.Need-put-requires
 put-requires c κs = search needs

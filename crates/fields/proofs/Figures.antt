@@ -4,8 +4,9 @@ use mathlib.Core.Path.{_≡_}
 use mathlib.Core.List.{List, _++_}
 use borrow.Author.Tests.{ne-eqb}
 use Rattle.text.specs.Text.{decimalOf}
-use Rattle.lines.specs.Words as words
-use Rattle.lines.specs.Lines.{overRange, unavailable, figure}
+use Rattle.fields.specs.Words as words
+use Rattle.block.specs.Reading.{unavailable}
+use Rattle.fields.specs.Fields.{overRange, figure}
 
 module _ (label : List ℕ) (r : ℕ) where
   pub figure-over : r ≡ overRange → label ++ words.over ≡ figure label r

@@ -1,9 +1,9 @@
--- `lines::put_counts` meets its contract. Assumes nothing.
+-- `fields::put_counts` meets its contract. Assumes nothing.
 use borrow.Author.Needs.{needs}
 use Rattle.text.proofs.Joined.{joined, keeps-length}
-use Rattle.lines.specs.Lines.{countsText}
-use Rattle.lines.proofs.put_counts.Statement.{statement}
-use Rattle.lines.proofs.put_counts.Tie as tie
+use Rattle.fields.specs.Fields.{countsText}
+use Rattle.fields.proofs.put_counts.Statement.{statement}
+use Rattle.fields.proofs.put_counts.Tie as tie
 
 slice-aggregate-put-number : tie.Need-slice-aggregate-put-number
 slice-aggregate-put-number c = search needs

@@ -1,9 +1,9 @@
--- `lines::put_source` meets its contract. Assumes nothing.
+-- `fields::put_source` meets its contract. Assumes nothing.
 use borrow.Author.Needs.{needs}
 use Rattle.text.proofs.Joined.{joined, keeps-length}
-use Rattle.lines.specs.Lines.{source}
-use Rattle.lines.proofs.put_source.Statement.{statement}
-use Rattle.lines.proofs.put_source.Tie as tie
+use Rattle.fields.specs.Fields.{source}
+use Rattle.fields.proofs.put_source.Statement.{statement}
+use Rattle.fields.proofs.put_source.Tie as tie
 
 put-requires : tie.Need-put-requires
 put-requires c κs = search needs

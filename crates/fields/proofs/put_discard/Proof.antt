@@ -1,9 +1,9 @@
--- `lines::put_discard` meets its contract. Assumes nothing.
+-- `fields::put_discard` meets its contract. Assumes nothing.
 use borrow.Author.Needs.{needs}
 use Rattle.text.proofs.Joined.{joined, keeps-length}
-use Rattle.lines.specs.Lines.{discardText}
-use Rattle.lines.proofs.put_discard.Statement.{statement}
-use Rattle.lines.proofs.put_discard.Tie as tie
+use Rattle.fields.specs.Fields.{discardText}
+use Rattle.fields.proofs.put_discard.Statement.{statement}
+use Rattle.fields.proofs.put_discard.Tie as tie
 
 slice-aggregate-put-source : tie.Need-slice-aggregate-put-source
 slice-aggregate-put-source c = search needs

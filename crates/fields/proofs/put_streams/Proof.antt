@@ -1,11 +1,11 @@
--- `lines::put_streams` meets its contract. Assumes nothing.
+-- `fields::put_streams` meets its contract. Assumes nothing.
 use mathlib.Core.Path.{ap}
 use borrow.Author.Needs.{needs}
 use Rattle.text.proofs.Joined.{joined, same-text, keeps-length}
-use Rattle.lines.specs.Words as words
-use Rattle.lines.specs.Lines.{number, streamsText}
-use Rattle.lines.proofs.put_streams.Statement.{statement}
-use Rattle.lines.proofs.put_streams.Tie as tie
+use Rattle.fields.specs.Words as words
+use Rattle.fields.specs.Fields.{number, streamsText}
+use Rattle.fields.proofs.put_streams.Statement.{statement}
+use Rattle.fields.proofs.put_streams.Tie as tie
 
 slice-aggregate-put-source : tie.Need-slice-aggregate-put-source
 slice-aggregate-put-source c = search needs
