@@ -22,11 +22,12 @@ HELD = 7  # what each lent byte or entry holds before the call
 
 # The greatest number that a field holds, by the field's name; any other field holds 32 bits.
 LIMITS = {"type": 255, "specific": 255, "flag": 255, "packet": 255, "first": 65535, "begin": 65535, "end": 65535,
-          "burst": 65535, "gap": 65535, "mean": 65535, "var": 65535, "index": 65535, "LEN": 262144, "ROOM": 262144}
+          "burst": 65535, "gap": 65535, "mean": 65535, "var": 65535, "index": 65535, "LEN": 262144, "ROOM": 65600,
+          "ENTRIES": 1024}
 TALLY = "event gmin spacing E L Eb Lb n S Q events packets since"
 # The fields of each word, then the kind of its data, if it takes any.
 NUMBERS = {
-    "read": ("LEN", "bytes"), "block": ("k LEN", "bytes"), "body": ("k LEN", "bytes"), "list": ("ROOM LEN", "bytes"),
+    "read": ("LEN", "bytes"), "block": ("k LEN", "bytes"), "body": ("k LEN", "bytes"), "list": ("ENTRIES LEN", "bytes"),
     "alone": ("type specific LEN", "bytes"), "new": ("sender ROOM", None),
     "add14": ("source first efirst elast interval seconds fraction LEN", "bytes"),
     "add17": ("flag source burst gap mean var LEN", "bytes"), "add18": ("flag source burst gap LEN", "bytes"),

@@ -17,8 +17,11 @@ use parse::Numbers;
 // The longest input, in bytes; the buffer has room for one more.
 const MOST: usize = 65_536;
 
-// The longest buffer of a case.
-const LONGEST: u32 = 262_144;
+// The most bytes of a case's data, those of the longest packet, and the most bytes that a case lends. The longer
+// an array is, the longer its proof takes.
+const DATA: u32 = 262_144;
+
+const ROOM: u32 = 65_600;
 
 fn main() {
     let mut buffer = [0u8; 65_537];
@@ -77,14 +80,14 @@ fn answer(line: &[u8]) {
 fn answer_with(form: Form, numbers: &[u32; 16], text: &[u8]) {
     let size = form::size(form, numbers);
     let room = form::room(form, numbers);
-    if LONGEST < size {
+    if DATA < size {
         return show::no_case();
     }
-    if LONGEST < room {
+    if ROOM < room {
         return show::no_case();
     }
     let mut data = [0u8; 262_144];
-    let mut lent = [7u8; 262_144];
+    let mut lent = [7u8; 65_600];
     let end = size as usize;
     let lent_end = room as usize;
     run(form, numbers, text, &mut data[..end], &mut lent[..lent_end]);

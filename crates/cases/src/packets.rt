@@ -7,7 +7,7 @@ use packet::BlockAt;
 use packet::PacketHead;
 
 // The most entries of a case.
-const ENTRIES: u32 = 262_144;
+const ENTRIES: u32 = 1_024;
 
 // The case of a word, with its numbers, its data and the lent bytes.
 pub fn run(word: PacketWord, n: &[u32; 16], data: &[u8], lent: &mut [u8]) {
@@ -52,7 +52,7 @@ fn list(room: u32, packet: &[u8]) {
     if ENTRIES < room {
         return show::no_case();
     }
-    let mut table = [7u32; 262_144];
+    let mut table = [7u32; 1_024];
     let end = room as usize;
     show_list(packet, &mut table[..end]);
 }
