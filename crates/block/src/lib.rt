@@ -61,15 +61,16 @@ pub const UNAVAILABLE: u16 = 65_535;
 //  +-+-+-+-+-+-+-+-+-+-+-+-+-+-+-+-+-+-+-+-+-+-+-+-+-+-+-+-+-+-+-+-+
 //  |     Measurement Duration (Cumulative) - Fraction (bit 0-31)   |
 //  +-+-+-+-+-+-+-+-+-+-+-+-+-+-+-+-+-+-+-+-+-+-+-+-+-+-+-+-+-+-+-+-+
+// C: nuvaskoe_measurement
 #[repr(C)]
 pub struct Measurement {
     pub source: u32,
-    pub first: u16,
-    pub extended_first: u32,
-    pub extended_last: u32,
-    pub interval: u32,
-    pub seconds: u32,
-    pub fraction: u32,
+    pub first: u16, // first sequence number
+    pub extended_first: u32, // extended first sequence number of the interval
+    pub extended_last: u32, // extended last sequence number
+    pub interval: u32, // interval duration
+    pub seconds: u32, // cumulative duration, its seconds
+    pub fraction: u32, // cumulative duration, its fraction
 }
 
 // Type 17, Burst/Gap Loss Summary Statistics: RFC 7004, section 3.1. I is the interval flag.
@@ -85,14 +86,15 @@ pub struct Measurement {
 //  +-+-+-+-+-+-+-+-+-+-+-+-+-+-+-+-+-+-+-+-+-+-+-+-+-+-+-+-+-+-+-+-+
 //  |      Burst Duration Mean      |    Burst Duration Variance    |
 //  +-+-+-+-+-+-+-+-+-+-+-+-+-+-+-+-+-+-+-+-+-+-+-+-+-+-+-+-+-+-+-+-+
+// C: nuvaskoe_loss_summary
 #[repr(C)]
 pub struct LossSummary {
-    pub flag: u8,
+    pub flag: u8, // interval flag, 1 to 3
     pub source: u32,
-    pub burst_rate: u16,
-    pub gap_rate: u16,
-    pub burst_mean: u16,
-    pub burst_variance: u16,
+    pub burst_rate: u16, // 0 to 32,768, or 65,535 for unavailable
+    pub gap_rate: u16, // 0 to 32,768, or 65,535 for unavailable
+    pub burst_mean: u16, // milliseconds; 65,534 for over range, 65,535 for unavailable
+    pub burst_variance: u16, // the same two marks
 }
 
 // Type 18, Burst/Gap Discard Summary Statistics: RFC 7004, section 3.2.
@@ -104,15 +106,16 @@ pub struct LossSummary {
 //  +-+-+-+-+-+-+-+-+-+-+-+-+-+-+-+-+-+-+-+-+-+-+-+-+-+-+-+-+-+-+-+-+
 //  |       Burst Discard Rate      |        Gap Discard Rate       |
 //  +-+-+-+-+-+-+-+-+-+-+-+-+-+-+-+-+-+-+-+-+-+-+-+-+-+-+-+-+-+-+-+-+
+// C: nuvaskoe_discard_summary
 #[repr(C)]
 pub struct DiscardSummary {
-    pub flag: u8,
+    pub flag: u8, // interval flag, 1 to 3
     pub source: u32,
-    pub burst_rate: u16,
-    pub gap_rate: u16,
+    pub burst_rate: u16, // 0 to 32,768, or 65,535 for unavailable
+    pub gap_rate: u16, // 0 to 32,768, or 65,535 for unavailable
 }
 
-// Type 240, effective loss: document 002, whose number is ours and whose length is RFC 3611's.
+// Type 240, effective loss: draft-zheng-xrblock-effective-loss-index. The number is ours, the length RFC 3611's.
 //
 //  +-+-+-+-+-+-+-+-+-+-+-+-+-+-+-+-+-+-+-+-+-+-+-+-+-+-+-+-+-+-+-+-+
 //  |     BT=240    |    Reserved   |      block length = 2         |
@@ -121,14 +124,15 @@ pub struct DiscardSummary {
 //  +-+-+-+-+-+-+-+-+-+-+-+-+-+-+-+-+-+-+-+-+-+-+-+-+-+-+-+-+-+-+-+-+
 //  |     Effective Loss Index      |            Reserved           |
 //  +-+-+-+-+-+-+-+-+-+-+-+-+-+-+-+-+-+-+-+-+-+-+-+-+-+-+-+-+-+-+-+-+
+// C: nuvaskoe_effective_summary
 #[repr(C)]
 pub struct EffectiveLoss {
     pub source: u32,
-    pub index: u16,
+    pub index: u16, // effective loss index; 65,535 is full loss
 }
 
-// Type 241, TR 101 290 decodability: document 004, section 3, whose number is ours. Every word from the
-// third on is one of the fields after end, in their order.
+// Type 241, TR 101 290 decodability: draft-huang-xrblock-rtcp-xr-decodability, section 3. The number is ours. Every
+// word from the third on is one of the fields after end, in their order.
 //
 //  +-+-+-+-+-+-+-+-+-+-+-+-+-+-+-+-+-+-+-+-+-+-+-+-+-+-+-+-+-+-+-+-+
 //  |     BT=241    |    Reserved   |      block length = 11        |
@@ -139,12 +143,13 @@ pub struct EffectiveLoss {
 //  +-+-+-+-+-+-+-+-+-+-+-+-+-+-+-+-+-+-+-+-+-+-+-+-+-+-+-+-+-+-+-+-+
 //  |             Number of TSs, then eight counts of 32 bits       |
 //  +-+-+-+-+-+-+-+-+-+-+-+-+-+-+-+-+-+-+-+-+-+-+-+-+-+-+-+-+-+-+-+-+
+// C: nuvaskoe_stream_counts
 #[repr(C)]
 pub struct StreamCounts {
     pub source: u32,
-    pub begin: u16,
-    pub end: u16,
-    pub streams: u32,
+    pub begin: u16, // first sequence number
+    pub end: u16, // sequence number after the last: it covers end minus begin packets, modulo 65,536
+    pub streams: u32, // number of transport streams
     pub sync_losses: u32,
     pub sync_byte_errors: u32,
     pub continuity_errors: u32,

@@ -7,25 +7,27 @@ ghost use Rattle.bursts.specs.Sums.{countsSound, durationsSound, sumsSou
 ghost use Rattle.bursts.specs.Figures.{rateOf, ranged, meanOf, varianceOf, measuredOf};
 ghost use Rattle.bursts.specs.Steps.{Rated, Spread};
 
-// E, L, Eb, Lb, n, S and Q of document 01, in its order.
+// What is summed over the packets so far: E, L, Eb, Lb, n, S and Q of document 01, in its order.
+// C: nuvaskoe_sums
 #[repr(C)]
 pub struct Sums {
-    pub packets: u64,
-    pub events: u64,
-    pub burst_packets: u64,
-    pub burst_events: u64,
-    pub bursts: u64,
-    pub durations: u64,
-    pub squares: u64,
+    pub packets: u64, // all packets
+    pub events: u64, // those that are counted
+    pub burst_packets: u64, // the packets of bursts
+    pub burst_events: u64, // the events of bursts
+    pub bursts: u64, // how many bursts
+    pub durations: u64, // the sum of their durations, in milliseconds
+    pub squares: u64, // the sum of the squares of their durations
 }
 
 // The figures as blocks 17 and 18 hold them.
+// C: nuvaskoe_burst_figures
 #[repr(C)]
 pub struct Figures {
-    pub burst_rate: u16,
-    pub gap_rate: u16,
-    pub burst_mean: u16,
-    pub burst_variance: u16,
+    pub burst_rate: u16, // 0 to 32,768, or 65,535 for unavailable
+    pub gap_rate: u16, // 0 to 32,768, or 65,535 for unavailable
+    pub burst_mean: u16, // milliseconds; 65,534 for over range, 65,535 for unavailable
+    pub burst_variance: u16, // the same two marks
 }
 
 // What sums give: their figures, or why none.

@@ -28,10 +28,11 @@ pub enum BlockAt {
     Refused(Refusal),
 }
 
-// A part of a packet by its first byte and its length.
+// Where a part of a packet lies.
+// C: nuvaskoe_part
 #[repr(C)]
 pub struct Part {
-    pub start: usize,
+    pub start: usize, // the offset of its first byte
     pub length: usize,
 }
 

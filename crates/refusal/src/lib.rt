@@ -4,11 +4,12 @@
 ghost use mathlib.Core.Path.{_≡_};
 ghost use Rattle.refusal.specs.Table.{blockPastEnd, traceByte};
 
-// A row of the table by its number, and the place, which is 0 for all but 6 and, in a trace, 9.
+// Why a call said no: a row of the table of refusals by its number, and the place.
+// C: nuvaskoe_refusal
 #[repr(C)]
 pub struct Refusal {
-    pub number: u32,
-    pub place: usize,
+    pub number: u32, // from 1; at the boundary to C 0 is no refusal, and the rest of the answer then holds
+    pub place: usize, // 6: the block's offset; 9: the byte's index in a trace; 0 elsewhere
 }
 
 // What a call that fills a lent buffer from its front answers: how many bytes, or entries, are the

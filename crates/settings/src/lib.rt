@@ -4,13 +4,14 @@
 ghost use mathlib.Core.Path.{_≡_};
 ghost use Rattle.settings.specs.Ranges.{within, burstInRange, batchInRange, inRange};
 
-// Spacing is the time between packets in microseconds.
+// The four settings of a card, and the range of each.
+// C: nuvaskoe_settings
 #[repr(C)]
 pub struct Settings {
-    pub gmin: u32,
-    pub batch: u32,
-    pub threshold: u32,
-    pub spacing: u32,
+    pub gmin: u32, // 1 to 255 packets
+    pub batch: u32, // 1 to 1,024 packets
+    pub threshold: u32, // 0 to 1,024 losses
+    pub spacing: u32, // between packets: 1 to 40,000 microseconds
 }
 
 pub const GMIN_MIN: u32 = 1;

@@ -10,13 +10,13 @@ ghost use mathlib.Core.Path.{_≡_};
 ghost use Rattle.tally.specs.Tally.{fresh, openOf, countedIn, openWithin, sound, stepOf, takeOne, refusedWith, closeOf, overTrace};
 ghost use Rattle.tally.specs.Steps.{Room, Bounded, sumsWithin, bounded};
 
-// The last group of events, which the next event may join: its events, its packets from first event to last,
-// and the packets since. With no event so far the first two are 0.
+// The last group of events, which the next event may join; its burst is not yet in the sums.
+// C: nuvaskoe_stretch
 #[repr(C)]
 pub struct Stretch {
-    pub events: u64,
-    pub packets: u64,
-    pub since: u64,
+    pub events: u64, // 0 where there was no event so far
+    pub packets: u64, // from its first event to its last; 0 where there was none
+    pub since: u64, // packets since its last event, or since the start
 }
 
 // What was counted so far. The open stretch is not yet in the sums of bursts.

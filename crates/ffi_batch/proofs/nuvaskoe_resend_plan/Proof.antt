@@ -1,0 +1,24 @@
+-- `ffi_batch::nuvaskoe_resend_plan` meets its contract: the library's call, put into the struct. Assumes nothing.
+use mathlib.Core.Path.{ap, _∙_}
+use Rattle.ffi_batch.specs.Answers.{marksOut}
+use borrow.Author.Needs.{needs}
+use Rattle.ffi_batch.proofs.nuvaskoe_resend_plan.Statement.{statement}
+use Rattle.ffi_batch.proofs.nuvaskoe_resend_plan.Tie as tie
+
+plan-requires : tie.Need-plan-requires
+plan-requires c κs = search needs
+
+marks-out-requires : tie.Need-marks-out-requires
+marks-out-requires c κs = search needs
+
+same-length : tie.Need-same-length
+same-length c = search needs
+
+returns : tie.Need-returns
+returns c =
+    let p = c .before .before .before .plan in
+    (c .marks-out .ensures ∙ ap marksOut (p .ensures .0), p .ensures .1)
+
+pub nuvaskoe-resend-plan-spec : {M : Type 1} → statement M
+nuvaskoe-resend-plan-spec =
+    tie.close (tie.spec plan-requires marks-out-requires same-length returns)

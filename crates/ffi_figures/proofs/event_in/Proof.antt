@@ -1,0 +1,20 @@
+-- `ffi_figures::event_in` meets its contract: each arm is a case of the definition. Assumes nothing.
+use borrow.Author.Tests.{ne-eqb}
+use Rattle.ffi_figures.specs.Answers.{eventIn}
+use Rattle.ffi_figures.proofs.event_in.Statement.{statement}
+use Rattle.ffi_figures.proofs.event_in.Tie as tie
+
+returns : tie.Need-returns
+unfolding eventIn
+returns c = rw (c .match .keys1)
+
+returns-2 : tie.Need-returns-2
+unfolding eventIn
+returns-2 c = rw (c .match .keys2)
+
+returns-3 : tie.Need-returns-3
+unfolding eventIn
+returns-3 c = rw (ne-eqb _ _ (c .match .rest .0 .1), ne-eqb _ _ (c .match .rest .1))
+
+pub event-in-spec : {M : Type 1} → statement M
+event-in-spec = tie.close (tie.spec returns returns-2 returns-3)
