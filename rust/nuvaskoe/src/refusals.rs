@@ -1,0 +1,136 @@
+//! The kinds of refusal, and the words of README's tables. Made by tools/boundary.py from the Rattle source; not edited by hand.
+
+use crate::block::Reason;
+
+/// Why a call said no: a row of the table of refusals.
+#[non_exhaustive]
+#[derive(Debug, Clone, Copy, PartialEq, Eq, Hash)]
+#[repr(u32)]
+pub enum RefusalKind {
+    /// The packet has under 8 bytes.
+    PacketShort = 1,
+    /// Its version is not 2.
+    Version = 2,
+    /// Its second byte is not 207.
+    PacketType = 3,
+    /// Its length field does not fit its bytes.
+    PacketLength = 4,
+    /// Its padding bit is set.
+    Padding = 5,
+    /// A block, at offset P, runs past the end.
+    BlockPastEnd = 6,
+    /// It has no block with that number.
+    NoSuchBlock = 7,
+    /// The buffer is too short for the result.
+    BufferShort = 8,
+    /// A byte of the trace, at index P, is above 2 (P is 0 for a tally).
+    TraceByte = 9,
+    /// The trace is empty or over 65,536 packets, or a tally is full.
+    TraceLength = 10,
+    /// The card is not exactly twenty digits.
+    CardDigits = 11,
+    /// The card's check does not fit.
+    CardCheck = 12,
+    /// The card's digits are right, a setting is not.
+    CardField = 13,
+    /// The batch is longer than the trace.
+    BatchLength = 14,
+    /// A setting is outside its range, or a tally is not sound.
+    Setting = 15,
+    /// A block 17 or 18 to be written has a bad flag or rate.
+    BlockValue = 16,
+    /// The packet is full.
+    PacketFull = 17,
+}
+
+impl RefusalKind {
+    /// All kinds, in the table's order.
+    pub const ALL: &'static [RefusalKind] = &[
+        RefusalKind::PacketShort,
+        RefusalKind::Version,
+        RefusalKind::PacketType,
+        RefusalKind::PacketLength,
+        RefusalKind::Padding,
+        RefusalKind::BlockPastEnd,
+        RefusalKind::NoSuchBlock,
+        RefusalKind::BufferShort,
+        RefusalKind::TraceByte,
+        RefusalKind::TraceLength,
+        RefusalKind::CardDigits,
+        RefusalKind::CardCheck,
+        RefusalKind::CardField,
+        RefusalKind::BatchLength,
+        RefusalKind::Setting,
+        RefusalKind::BlockValue,
+        RefusalKind::PacketFull,
+    ];
+
+    /// The number in the table, from 1.
+    pub fn number(self) -> u32 {
+        self as u32
+    }
+
+    /// The kind with this number.
+    pub fn numbered(number: u32) -> Option<RefusalKind> {
+        let index = usize::try_from(number).ok()?.checked_sub(1)?;
+        RefusalKind::ALL.get(index).copied()
+    }
+
+    /// What went wrong.
+    pub fn meaning(self) -> &'static str {
+        match self {
+            RefusalKind::PacketShort => "the packet has under 8 bytes",
+            RefusalKind::Version => "its version is not 2",
+            RefusalKind::PacketType => "its second byte is not 207",
+            RefusalKind::PacketLength => "its length field does not fit its bytes",
+            RefusalKind::Padding => "its padding bit is set",
+            RefusalKind::BlockPastEnd => "a block, at offset P, runs past the end",
+            RefusalKind::NoSuchBlock => "it has no block with that number",
+            RefusalKind::BufferShort => "the buffer is too short for the result",
+            RefusalKind::TraceByte => "a byte of the trace, at index P, is above 2 (P is 0 for a tally)",
+            RefusalKind::TraceLength => "the trace is empty or over 65,536 packets, or a tally is full",
+            RefusalKind::CardDigits => "the card is not exactly twenty digits",
+            RefusalKind::CardCheck => "the card's check does not fit",
+            RefusalKind::CardField => "the card's digits are right, a setting is not",
+            RefusalKind::BatchLength => "the batch is longer than the trace",
+            RefusalKind::Setting => "a setting is outside its range, or a tally is not sound",
+            RefusalKind::BlockValue => "a block 17 or 18 to be written has a bad flag or rate",
+            RefusalKind::PacketFull => "the packet is full",
+        }
+    }
+
+    /// What to do about it.
+    pub fn advice(self) -> &'static str {
+        match self {
+            RefusalKind::PacketShort => "it was cut off, or is no report packet: take it again",
+            RefusalKind::Version => "it is no RTCP packet, or was damaged",
+            RefusalKind::PacketType => "it is an RTCP packet, but no XR report",
+            RefusalKind::PacketLength => "it was cut off, or two packets stand together: hand in one",
+            RefusalKind::Padding => "padded packets are not read: the sender must send them without",
+            RefusalKind::BlockPastEnd => "the packet was damaged: nothing of it is read",
+            RefusalKind::NoSuchBlock => "blocks are numbered from 0",
+            RefusalKind::BufferShort => "lend more: 20 bytes for a card, a byte a packet for a plan, two entries a block for a list",
+            RefusalKind::TraceByte => "a packet is 0 received, 1 lost or 2 discarded",
+            RefusalKind::TraceLength => "measure in shorter stretches",
+            RefusalKind::CardDigits => "look for a missing digit, a letter or a space",
+            RefusalKind::CardCheck => "a digit is wrong, or two are exchanged: compare with the master card",
+            RefusalKind::CardField => "Gmin 1 to 255, batch 1 to 1,024, threshold 0 to 1,024, spacing 1 to 40,000",
+            RefusalKind::BatchLength => "measure longer, or take a smaller batch",
+            RefusalKind::Setting => "ranges as for 13; a tally is used as it was handed out",
+            RefusalKind::BlockValue => "flag 1 to 3, rates 0 to 32,768 or 65,535",
+            RefusalKind::PacketFull => "begin another",
+        }
+    }
+}
+
+impl Reason {
+    /// What is wrong with the block.
+    pub fn meaning(self) -> &'static str {
+        match self {
+            Reason::BadSize => "its length is not that of its type",
+            Reason::BadFlag => "its interval flag is 0, which is reserved",
+            Reason::BadRate => "a rate is between 32,769 and 65,534, which no rate can be",
+            Reason::Unmeasured => "no measurement block (14) for its source is in the packet, so its figures have no span",
+        }
+    }
+}
