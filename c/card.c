@@ -1,20 +1,7 @@
 /* card.c: the settings card through the C boundary, by plain comparisons. */
-#include <stdio.h>
 #include <string.h>
 
-#include "nuvaskoe.h"
-
-static int checks;
-static int failures;
-
-#define CHECK(condition)                                                        \
-    do {                                                                        \
-        checks++;                                                               \
-        if (!(condition)) {                                                     \
-            failures++;                                                         \
-            fprintf(stderr, "%s:%d: not so: %s\n", __FILE__, __LINE__, #condition); \
-        }                                                                       \
-    } while (0)
+#include "check.h"
 
 static const nuvaskoe_settings p10_settings = {16, 100, 10, 400};
 static const char p10[] = "01600100000100040096";
@@ -55,16 +42,16 @@ static void check_reading(void)
     CHECK(card.settings.spacing == 400);
 
     /* P11 */
-    CHECK(refused(read_text("01600100000010040096"), NUVASKOE_CARD_CHECK));
+    CHECK(refused(read_text("01600100000010040096"), NUVASKOE_REFUSAL_CARD_CHECK));
     /* Leaves 1 as its right check 02 does, but each setting has one card. */
-    CHECK(refused(read_text("01600001000100040099"), NUVASKOE_CARD_CHECK));
+    CHECK(refused(read_text("01600001000100040099"), NUVASKOE_REFUSAL_CARD_CHECK));
 
-    CHECK(refused(read_text(""), NUVASKOE_CARD_DIGITS));
-    CHECK(refused(read_text("0160010000010004009"), NUVASKOE_CARD_DIGITS));
-    CHECK(refused(read_text("016001000001000400960"), NUVASKOE_CARD_DIGITS));
-    CHECK(refused(read_text("0160010000010004009:"), NUVASKOE_CARD_DIGITS));
+    CHECK(refused(read_text(""), NUVASKOE_REFUSAL_CARD_DIGITS));
+    CHECK(refused(read_text("0160010000010004009"), NUVASKOE_REFUSAL_CARD_DIGITS));
+    CHECK(refused(read_text("016001000001000400960"), NUVASKOE_REFUSAL_CARD_DIGITS));
+    CHECK(refused(read_text("0160010000010004009:"), NUVASKOE_REFUSAL_CARD_DIGITS));
     /* Gmin 0 with the check that makes the card right. */
-    CHECK(refused(read_text("00000100000100040025"), NUVASKOE_CARD_FIELD));
+    CHECK(refused(read_text("00000100000100040025"), NUVASKOE_REFUSAL_CARD_FIELD));
 }
 
 static void check_writing(void)
@@ -96,7 +83,7 @@ static void check_refused_writing(void)
 
     memset(out, 0xA5, sizeof out);
     written = nuvaskoe_card_write(settings, out, 19);
-    CHECK(written.refusal.number == NUVASKOE_BUFFER_SHORT);
+    CHECK(written.refusal.number == NUVASKOE_REFUSAL_BUFFER_SHORT);
     CHECK(written.refusal.place == 0);
     CHECK(written.size == 0);
     CHECK(all_bytes(out, sizeof out, 0xA5));
@@ -104,13 +91,13 @@ static void check_refused_writing(void)
     /* Both refusals apply: 15 comes before 8. */
     settings.batch = 1025;
     written = nuvaskoe_card_write(settings, out, 19);
-    CHECK(written.refusal.number == NUVASKOE_SETTING);
+    CHECK(written.refusal.number == NUVASKOE_REFUSAL_SETTING);
     CHECK(written.refusal.place == 0);
     CHECK(written.size == 0);
     CHECK(all_bytes(out, sizeof out, 0xA5));
 
     written = nuvaskoe_card_write(settings, out, sizeof out);
-    CHECK(written.refusal.number == NUVASKOE_SETTING);
+    CHECK(written.refusal.number == NUVASKOE_REFUSAL_SETTING);
     CHECK(written.size == 0);
     CHECK(all_bytes(out, sizeof out, 0xA5));
 }
@@ -120,10 +107,5 @@ int main(void)
     check_reading();
     check_writing();
     check_refused_writing();
-    if (failures != 0) {
-        fprintf(stderr, "card.c: %d of %d checks failed\n", failures, checks);
-        return 1;
-    }
-    printf("card.c: %d checks passed\n", checks);
-    return 0;
+    return checked("card.c");
 }

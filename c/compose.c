@@ -1,26 +1,10 @@
 /* compose.c: report packets written through the C boundary, by plain comparisons. */
-#include <stdio.h>
 #include <string.h>
 
-#include "nuvaskoe.h"
-
-static int checks;
-static int failures;
-
-#define CHECK(condition)                                                        \
-    do {                                                                        \
-        checks++;                                                               \
-        if (!(condition)) {                                                     \
-            failures++;                                                         \
-            fprintf(stderr, "%s:%d: not so: %s\n", __FILE__, __LINE__, #condition); \
-        }                                                                       \
-    } while (0)
+#include "check.h"
 
 /* What a buffer holds before a call; no byte of a block below is this. */
 #define HELD 0xA5
-
-/* The longest packet: a length field of 65,535. */
-#define LONGEST 262144
 
 /* A new packet and one block of each kind, as bytes. */
 static const uint8_t all_kinds[128] = {
@@ -133,8 +117,8 @@ static void check_new(void)
 {
     uint8_t out[12];
     memset(out, HELD, sizeof out);
-    CHECK(refused(nuvaskoe_packet_new(0x0A0B0C0D, out, 0), NUVASKOE_BUFFER_SHORT, 0));
-    CHECK(refused(nuvaskoe_packet_new(0x0A0B0C0D, out, 7), NUVASKOE_BUFFER_SHORT, 0));
+    CHECK(refused(nuvaskoe_packet_new(0x0A0B0C0D, out, 0), NUVASKOE_REFUSAL_BUFFER_SHORT, 0));
+    CHECK(refused(nuvaskoe_packet_new(0x0A0B0C0D, out, 7), NUVASKOE_REFUSAL_BUFFER_SHORT, 0));
     CHECK(held(out, 0, sizeof out));
     CHECK(wrote(nuvaskoe_packet_new(0x0A0B0C0D, out, sizeof out), 8));
     CHECK(out[3] == 1);
@@ -156,11 +140,11 @@ static void check_adding(void)
 
     /* Neither is measured yet. */
     block = nuvaskoe_packet_block(out, 36, 0);
-    CHECK(block.type == 17 && block.verdict == NUVASKOE_UNMEASURED);
+    CHECK(block.block_type == 17 && block.verdict == NUVASKOE_VERDICT_UNMEASURED);
     CHECK(wrote(nuvaskoe_packet_add_measurement(out, sizeof out, measurement()), 68));
     CHECK(held(out, 68, sizeof out));
     block = nuvaskoe_packet_block(out, 68, 0);
-    CHECK(block.type == 17 && block.verdict == NUVASKOE_TYPED);
+    CHECK(block.block_type == 17 && block.verdict == NUVASKOE_VERDICT_TYPED);
     CHECK(block.fields[0] == 2 && block.fields[1] == 5 && block.fields[2] == 32768);
     CHECK(block.fields[3] == 65535 && block.fields[4] == 65534 && block.fields[5] == 0x0102);
 
@@ -168,7 +152,7 @@ static void check_adding(void)
     CHECK(held(out, 80, sizeof out));
 
     /* One byte too little for the block of 48, then just enough. */
-    CHECK(refused(nuvaskoe_packet_add_streams(out, 127, streams()), NUVASKOE_BUFFER_SHORT, 0));
+    CHECK(refused(nuvaskoe_packet_add_streams(out, 127, streams()), NUVASKOE_REFUSAL_BUFFER_SHORT, 0));
     CHECK(held(out, 80, sizeof out) && out[3] == 19);
     CHECK(wrote(nuvaskoe_packet_add_streams(out, 128, streams()), 128));
     CHECK(memcmp(out, all_kinds, sizeof all_kinds) == 0);
@@ -186,19 +170,19 @@ static void check_values(void)
     memset(out, HELD, sizeof out);
     CHECK(wrote(nuvaskoe_packet_new(1, out, sizeof out), 8));
     bad_loss.flag = 0;
-    CHECK(refused(nuvaskoe_packet_add_loss(out, sizeof out, bad_loss), NUVASKOE_BLOCK_VALUE, 0));
+    CHECK(refused(nuvaskoe_packet_add_loss(out, sizeof out, bad_loss), NUVASKOE_REFUSAL_BLOCK_VALUE, 0));
     bad_loss.flag = 4;
-    CHECK(refused(nuvaskoe_packet_add_loss(out, sizeof out, bad_loss), NUVASKOE_BLOCK_VALUE, 0));
+    CHECK(refused(nuvaskoe_packet_add_loss(out, sizeof out, bad_loss), NUVASKOE_REFUSAL_BLOCK_VALUE, 0));
     bad_loss.flag = 1;
     bad_loss.burst_rate = 32769;
-    CHECK(refused(nuvaskoe_packet_add_loss(out, sizeof out, bad_loss), NUVASKOE_BLOCK_VALUE, 0));
+    CHECK(refused(nuvaskoe_packet_add_loss(out, sizeof out, bad_loss), NUVASKOE_REFUSAL_BLOCK_VALUE, 0));
     bad_discard.gap_rate = 65534;
-    CHECK(refused(nuvaskoe_packet_add_discard(out, sizeof out, bad_discard), NUVASKOE_BLOCK_VALUE, 0));
+    CHECK(refused(nuvaskoe_packet_add_discard(out, sizeof out, bad_discard), NUVASKOE_REFUSAL_BLOCK_VALUE, 0));
     /* 16 comes before 8. */
-    CHECK(refused(nuvaskoe_packet_add_discard(out, 8, bad_discard), NUVASKOE_BLOCK_VALUE, 0));
+    CHECK(refused(nuvaskoe_packet_add_discard(out, 8, bad_discard), NUVASKOE_REFUSAL_BLOCK_VALUE, 0));
     CHECK(held(out, 8, sizeof out) && out[3] == 1);
     bad_discard.gap_rate = 65535;
-    CHECK(refused(nuvaskoe_packet_add_discard(out, 8, bad_discard), NUVASKOE_BUFFER_SHORT, 0));
+    CHECK(refused(nuvaskoe_packet_add_discard(out, 8, bad_discard), NUVASKOE_REFUSAL_BUFFER_SHORT, 0));
     CHECK(wrote(nuvaskoe_packet_add_discard(out, sizeof out, bad_discard), 20));
 }
 
@@ -211,28 +195,28 @@ static void check_bad_packets(void)
 
     bad.flag = 0;
     memset(out, HELD, sizeof out);
-    CHECK(refused(nuvaskoe_packet_add_discard(out, 7, bad), NUVASKOE_PACKET_SHORT, 0));
+    CHECK(refused(nuvaskoe_packet_add_discard(out, 7, bad), NUVASKOE_REFUSAL_PACKET_SHORT, 0));
     memcpy(out, all_kinds, 36);
     out[3] = 8;
     memcpy(before, out, sizeof out);
     out[0] = 0x40;
-    CHECK(refused(nuvaskoe_packet_add_discard(out, sizeof out, bad), NUVASKOE_VERSION, 0));
+    CHECK(refused(nuvaskoe_packet_add_discard(out, sizeof out, bad), NUVASKOE_REFUSAL_VERSION, 0));
     out[0] = 0x80;
     out[1] = 206;
-    CHECK(refused(nuvaskoe_packet_add_discard(out, sizeof out, bad), NUVASKOE_PACKET_TYPE, 0));
+    CHECK(refused(nuvaskoe_packet_add_discard(out, sizeof out, bad), NUVASKOE_REFUSAL_PACKET_TYPE, 0));
     out[1] = 207;
     out[3] = 16;
-    CHECK(refused(nuvaskoe_packet_add_discard(out, sizeof out, bad), NUVASKOE_PACKET_LENGTH, 0));
+    CHECK(refused(nuvaskoe_packet_add_discard(out, sizeof out, bad), NUVASKOE_REFUSAL_PACKET_LENGTH, 0));
     out[3] = 0;
-    CHECK(refused(nuvaskoe_packet_add_discard(out, sizeof out, bad), NUVASKOE_PACKET_LENGTH, 0));
+    CHECK(refused(nuvaskoe_packet_add_discard(out, sizeof out, bad), NUVASKOE_REFUSAL_PACKET_LENGTH, 0));
     out[3] = 8;
     out[0] = 0xA0;
-    CHECK(refused(nuvaskoe_packet_add_discard(out, sizeof out, bad), NUVASKOE_PADDING, 0));
+    CHECK(refused(nuvaskoe_packet_add_discard(out, sizeof out, bad), NUVASKOE_REFUSAL_PADDING, 0));
     out[0] = 0x80;
     out[27] = 3;
-    CHECK(refused(nuvaskoe_packet_add_discard(out, sizeof out, bad), NUVASKOE_BLOCK_PAST_END, 24));
+    CHECK(refused(nuvaskoe_packet_add_discard(out, sizeof out, bad), NUVASKOE_REFUSAL_BLOCK_PAST_END, 24));
     out[27] = 2;
-    CHECK(refused(nuvaskoe_packet_add_discard(out, sizeof out, bad), NUVASKOE_BLOCK_VALUE, 0));
+    CHECK(refused(nuvaskoe_packet_add_discard(out, sizeof out, bad), NUVASKOE_REFUSAL_BLOCK_VALUE, 0));
     CHECK(memcmp(out, before, sizeof out) == 0);
     CHECK(wrote(nuvaskoe_packet_add_discard(out, sizeof out, discard()), 48));
 }
@@ -240,7 +224,7 @@ static void check_bad_packets(void)
 /* One unknown block leaves three words below the limit: enough for a 240 and not for a 17. */
 static void check_full(void)
 {
-    static uint8_t out[LONGEST + 16];
+    static uint8_t out[NUVASKOE_PACKET_BYTES_MAX + 16];
 
     memset(out, 0, sizeof out);
     CHECK(wrote(nuvaskoe_packet_new(1, out, sizeof out), 8));
@@ -248,16 +232,16 @@ static void check_full(void)
     out[3] = 0xFC;
     out[8] = 1;
     out[11] = 0xFA;
-    CHECK(nuvaskoe_packet_read(out, LONGEST - 12).blocks == 1);
-    CHECK(refused(nuvaskoe_packet_add_loss(out, sizeof out, loss()), NUVASKOE_PACKET_FULL, 0));
+    CHECK(nuvaskoe_packet_read(out, NUVASKOE_PACKET_BYTES_MAX - 12).blocks == 1);
+    CHECK(refused(nuvaskoe_packet_add_loss(out, sizeof out, loss()), NUVASKOE_REFUSAL_PACKET_FULL, 0));
     /* 17 comes before 8. */
-    CHECK(refused(nuvaskoe_packet_add_loss(out, LONGEST - 12, loss()), NUVASKOE_PACKET_FULL, 0));
-    CHECK(refused(nuvaskoe_packet_add_effective(out, LONGEST - 1, effective()), NUVASKOE_BUFFER_SHORT, 0));
-    CHECK(out[2] == 0xFF && out[3] == 0xFC && out[LONGEST - 12] == 0);
-    CHECK(wrote(nuvaskoe_packet_add_effective(out, LONGEST, effective()), LONGEST));
+    CHECK(refused(nuvaskoe_packet_add_loss(out, NUVASKOE_PACKET_BYTES_MAX - 12, loss()), NUVASKOE_REFUSAL_PACKET_FULL, 0));
+    CHECK(refused(nuvaskoe_packet_add_effective(out, NUVASKOE_PACKET_BYTES_MAX - 1, effective()), NUVASKOE_REFUSAL_BUFFER_SHORT, 0));
+    CHECK(out[2] == 0xFF && out[3] == 0xFC && out[NUVASKOE_PACKET_BYTES_MAX - 12] == 0);
+    CHECK(wrote(nuvaskoe_packet_add_effective(out, NUVASKOE_PACKET_BYTES_MAX, effective()), NUVASKOE_PACKET_BYTES_MAX));
     CHECK(out[2] == 0xFF && out[3] == 0xFF);
-    CHECK(memcmp(out + LONGEST - 12, all_kinds + 68, 12) == 0);
-    CHECK(refused(nuvaskoe_packet_add_effective(out, sizeof out, effective()), NUVASKOE_PACKET_FULL, 0));
+    CHECK(memcmp(out + NUVASKOE_PACKET_BYTES_MAX - 12, all_kinds + 68, 12) == 0);
+    CHECK(refused(nuvaskoe_packet_add_effective(out, sizeof out, effective()), NUVASKOE_REFUSAL_PACKET_FULL, 0));
 }
 
 int main(void)
@@ -267,10 +251,5 @@ int main(void)
     check_values();
     check_bad_packets();
     check_full();
-    if (failures != 0) {
-        fprintf(stderr, "compose.c: %d of %d checks failed\n", failures, checks);
-        return 1;
-    }
-    printf("compose.c: %d checks passed\n", checks);
-    return 0;
+    return checked("compose.c");
 }

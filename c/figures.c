@@ -1,30 +1,12 @@
 /* figures.c: tallies, figures and their blocks through the C boundary, by plain comparisons. */
-#include <stdio.h>
 #include <string.h>
 
-#include "nuvaskoe.h"
-
-static int checks;
-static int failures;
-
-#define CHECK(condition)                                                        \
-    do {                                                                        \
-        checks++;                                                               \
-        if (!(condition)) {                                                     \
-            failures++;                                                         \
-            fprintf(stderr, "%s:%d: not so: %s\n", __FILE__, __LINE__, #condition); \
-        }                                                                       \
-    } while (0)
-
-/* The longest trace, and a rate, mean or variance that is unavailable or over range. */
-#define LONGEST 65536
-#define NONE 65535
-#define OVER 65534
+#include "check.h"
 
 /* P6 of document 01: bursts of three packets and of two, Gmin 2. */
 static const uint8_t p6[11] = {1, 0, 1, 0, 0, 1, 0, 0, 0, 1, 1};
 
-static uint8_t longest[LONGEST + 1];
+static uint8_t longest[NUVASKOE_TRACE_MAX + 1];
 
 static int same_figures(nuvaskoe_burst_figures one, nuvaskoe_burst_figures other)
 {
@@ -46,7 +28,7 @@ static int figured(nuvaskoe_figured answer, uint16_t burst, uint16_t gap, uint16
 /* A refused measuring gives its number and place, and every figure unavailable. */
 static int not_figured(nuvaskoe_figured answer, uint32_t number, size_t place)
 {
-    static const nuvaskoe_burst_figures nothing = {NONE, NONE, NONE, NONE};
+    static const nuvaskoe_burst_figures nothing = {NUVASKOE_UNAVAILABLE, NUVASKOE_UNAVAILABLE, NUVASKOE_UNAVAILABLE, NUVASKOE_UNAVAILABLE};
     return answer.refusal.number == number && answer.refusal.place == place &&
            same_figures(answer.figures, nothing);
 }
@@ -76,7 +58,7 @@ static nuvaskoe_tally odd_tally(void)
     memset(&tally, 0xFF, sizeof tally);
     tally.gmin = 3;
     tally.spacing = 1000;
-    tally.event = NUVASKOE_LOST;
+    tally.event = NUVASKOE_EVENT_LOST;
     tally.sums.packets = 20;
     tally.sums.events = 11;
     tally.sums.burst_packets = 9;
@@ -95,13 +77,13 @@ static void check_figures(void)
     static const uint8_t lost[3] = {1, 1, 1};
     static const uint8_t received[3] = {0, 0, 0};
     static const uint8_t discarded[4] = {2, 1, 2, 0};
-    CHECK(figured(nuvaskoe_figures(p6, sizeof p6, 2, 1000, NUVASKOE_LOST), 26214, 5461, 2, 2));
-    CHECK(figured(nuvaskoe_figures(p6, sizeof p6, 2, 1000, NUVASKOE_DISCARDED), NONE, 0, NONE, NONE));
-    CHECK(figured(nuvaskoe_figures(lost, 3, 16, 1000, NUVASKOE_LOST), 32768, NONE, 3, 0));
-    CHECK(figured(nuvaskoe_figures(lost, 1, 16, 1000, NUVASKOE_LOST), NONE, 32768, NONE, NONE));
-    CHECK(figured(nuvaskoe_figures(received, 3, 16, 1000, NUVASKOE_LOST), NONE, 0, NONE, NONE));
-    CHECK(figured(nuvaskoe_figures(discarded, 4, 2, 40000, NUVASKOE_DISCARDED), 21845, 0, 120, 0));
-    CHECK(figured(nuvaskoe_figures(discarded, 4, 1, 40000, NUVASKOE_DISCARDED), NONE, 16384, NONE, NONE));
+    CHECK(figured(nuvaskoe_figures(p6, sizeof p6, 2, 1000, NUVASKOE_EVENT_LOST), 26214, 5461, 2, 2));
+    CHECK(figured(nuvaskoe_figures(p6, sizeof p6, 2, 1000, NUVASKOE_EVENT_DISCARDED), NUVASKOE_UNAVAILABLE, 0, NUVASKOE_UNAVAILABLE, NUVASKOE_UNAVAILABLE));
+    CHECK(figured(nuvaskoe_figures(lost, 3, 16, 1000, NUVASKOE_EVENT_LOST), 32768, NUVASKOE_UNAVAILABLE, 3, 0));
+    CHECK(figured(nuvaskoe_figures(lost, 1, 16, 1000, NUVASKOE_EVENT_LOST), NUVASKOE_UNAVAILABLE, 32768, NUVASKOE_UNAVAILABLE, NUVASKOE_UNAVAILABLE));
+    CHECK(figured(nuvaskoe_figures(received, 3, 16, 1000, NUVASKOE_EVENT_LOST), NUVASKOE_UNAVAILABLE, 0, NUVASKOE_UNAVAILABLE, NUVASKOE_UNAVAILABLE));
+    CHECK(figured(nuvaskoe_figures(discarded, 4, 2, 40000, NUVASKOE_EVENT_DISCARDED), 21845, 0, 120, 0));
+    CHECK(figured(nuvaskoe_figures(discarded, 4, 1, 40000, NUVASKOE_EVENT_DISCARDED), NUVASKOE_UNAVAILABLE, 16384, NUVASKOE_UNAVAILABLE, NUVASKOE_UNAVAILABLE));
 }
 
 static void check_figures_refused(void)
@@ -110,56 +92,56 @@ static void check_figures_refused(void)
     static const uint8_t bad[4] = {0, 2, 3, 255};
     size_t i;
     for (i = 0; i < 5; i++) {
-        CHECK(not_figured(nuvaskoe_figures(p6, sizeof p6, 2, 1000, events[i]), NUVASKOE_SETTING, 0));
-        CHECK(not_figured(nuvaskoe_figures(bad, 0, 2, 1000, events[i]), NUVASKOE_SETTING, 0));
+        CHECK(not_figured(nuvaskoe_figures(p6, sizeof p6, 2, 1000, events[i]), NUVASKOE_REFUSAL_SETTING, 0));
+        CHECK(not_figured(nuvaskoe_figures(bad, 0, 2, 1000, events[i]), NUVASKOE_REFUSAL_SETTING, 0));
     }
-    CHECK(not_figured(nuvaskoe_figures(p6, sizeof p6, 0, 1000, NUVASKOE_LOST), NUVASKOE_SETTING, 0));
-    CHECK(not_figured(nuvaskoe_figures(p6, sizeof p6, 256, 1000, NUVASKOE_LOST), NUVASKOE_SETTING, 0));
-    CHECK(not_figured(nuvaskoe_figures(p6, sizeof p6, 2, 0, NUVASKOE_LOST), NUVASKOE_SETTING, 0));
-    CHECK(not_figured(nuvaskoe_figures(p6, sizeof p6, 2, 40001, NUVASKOE_LOST), NUVASKOE_SETTING, 0));
-    CHECK(not_figured(nuvaskoe_figures(bad, 0, 2, 0, NUVASKOE_LOST), NUVASKOE_SETTING, 0));
-    CHECK(not_figured(nuvaskoe_figures(bad, 0, 2, 1000, NUVASKOE_LOST), NUVASKOE_TRACE_LENGTH, 0));
-    CHECK(not_figured(nuvaskoe_figures(bad, 4, 2, 1000, NUVASKOE_LOST), NUVASKOE_TRACE_BYTE, 2));
-    CHECK(not_figured(nuvaskoe_figures(bad + 3, 1, 2, 1000, NUVASKOE_LOST), NUVASKOE_TRACE_BYTE, 0));
+    CHECK(not_figured(nuvaskoe_figures(p6, sizeof p6, 0, 1000, NUVASKOE_EVENT_LOST), NUVASKOE_REFUSAL_SETTING, 0));
+    CHECK(not_figured(nuvaskoe_figures(p6, sizeof p6, 256, 1000, NUVASKOE_EVENT_LOST), NUVASKOE_REFUSAL_SETTING, 0));
+    CHECK(not_figured(nuvaskoe_figures(p6, sizeof p6, 2, 0, NUVASKOE_EVENT_LOST), NUVASKOE_REFUSAL_SETTING, 0));
+    CHECK(not_figured(nuvaskoe_figures(p6, sizeof p6, 2, 40001, NUVASKOE_EVENT_LOST), NUVASKOE_REFUSAL_SETTING, 0));
+    CHECK(not_figured(nuvaskoe_figures(bad, 0, 2, 0, NUVASKOE_EVENT_LOST), NUVASKOE_REFUSAL_SETTING, 0));
+    CHECK(not_figured(nuvaskoe_figures(bad, 0, 2, 1000, NUVASKOE_EVENT_LOST), NUVASKOE_REFUSAL_TRACE_LENGTH, 0));
+    CHECK(not_figured(nuvaskoe_figures(bad, 4, 2, 1000, NUVASKOE_EVENT_LOST), NUVASKOE_REFUSAL_TRACE_BYTE, 2));
+    CHECK(not_figured(nuvaskoe_figures(bad + 3, 1, 2, 1000, NUVASKOE_EVENT_LOST), NUVASKOE_REFUSAL_TRACE_BYTE, 0));
 }
 
 static void check_longest(void)
 {
-    nuvaskoe_tallied answer = nuvaskoe_tally_open(255, 40000, NUVASKOE_LOST);
+    nuvaskoe_tallied answer = nuvaskoe_tally_open(255, 40000, NUVASKOE_EVENT_LOST);
     size_t i;
     memset(longest, 1, sizeof longest);
-    CHECK(figured(nuvaskoe_figures(longest, LONGEST, 255, 40000, NUVASKOE_LOST), 32768, NONE, OVER, 0));
-    CHECK(figured(nuvaskoe_figures(longest, LONGEST, 1, 999, NUVASKOE_LOST), 32768, NONE, 65470, 0));
-    longest[LONGEST] = 3;
-    CHECK(not_figured(nuvaskoe_figures(longest, LONGEST + 1, 1, 999, NUVASKOE_LOST), NUVASKOE_TRACE_LENGTH, 0));
-    for (i = 0; i < LONGEST && answer.refusal.number == NUVASKOE_OK; i++) {
+    CHECK(figured(nuvaskoe_figures(longest, NUVASKOE_TRACE_MAX, 255, 40000, NUVASKOE_EVENT_LOST), 32768, NUVASKOE_UNAVAILABLE, NUVASKOE_OVER_RANGE, 0));
+    CHECK(figured(nuvaskoe_figures(longest, NUVASKOE_TRACE_MAX, 1, 999, NUVASKOE_EVENT_LOST), 32768, NUVASKOE_UNAVAILABLE, 65470, 0));
+    longest[NUVASKOE_TRACE_MAX] = 3;
+    CHECK(not_figured(nuvaskoe_figures(longest, NUVASKOE_TRACE_MAX + 1, 1, 999, NUVASKOE_EVENT_LOST), NUVASKOE_REFUSAL_TRACE_LENGTH, 0));
+    for (i = 0; i < NUVASKOE_TRACE_MAX && answer.refusal.number == NUVASKOE_OK; i++) {
         answer = nuvaskoe_tally_take(answer.tally, 1);
     }
-    CHECK(i == LONGEST && answer.refusal.number == NUVASKOE_OK);
-    CHECK(answer.tally.sums.packets == LONGEST && answer.tally.stretch.packets == LONGEST);
-    CHECK(figured(nuvaskoe_tally_close(answer.tally), 32768, NONE, OVER, 0));
-    CHECK(not_taken(answer.tally, 0, NUVASKOE_TRACE_LENGTH));
-    CHECK(not_taken(answer.tally, 3, NUVASKOE_TRACE_LENGTH));
-    longest[LONGEST - 1] = 3;
-    CHECK(not_figured(nuvaskoe_figures(longest, LONGEST, 1, 999, NUVASKOE_LOST), NUVASKOE_TRACE_BYTE, LONGEST - 1));
+    CHECK(i == NUVASKOE_TRACE_MAX && answer.refusal.number == NUVASKOE_OK);
+    CHECK(answer.tally.sums.packets == NUVASKOE_TRACE_MAX && answer.tally.stretch.packets == NUVASKOE_TRACE_MAX);
+    CHECK(figured(nuvaskoe_tally_close(answer.tally), 32768, NUVASKOE_UNAVAILABLE, NUVASKOE_OVER_RANGE, 0));
+    CHECK(not_taken(answer.tally, 0, NUVASKOE_REFUSAL_TRACE_LENGTH));
+    CHECK(not_taken(answer.tally, 3, NUVASKOE_REFUSAL_TRACE_LENGTH));
+    longest[NUVASKOE_TRACE_MAX - 1] = 3;
+    CHECK(not_figured(nuvaskoe_figures(longest, NUVASKOE_TRACE_MAX, 1, 999, NUVASKOE_EVENT_LOST), NUVASKOE_REFUSAL_TRACE_BYTE, NUVASKOE_TRACE_MAX - 1));
 }
 
 /* A tally closes at every point with the figures of the packets so far. */
 static void check_tally(void)
 {
     static const nuvaskoe_tally nothing;
-    nuvaskoe_tallied answer = nuvaskoe_tally_open(2, 1000, NUVASKOE_LOST);
+    nuvaskoe_tallied answer = nuvaskoe_tally_open(2, 1000, NUVASKOE_EVENT_LOST);
     nuvaskoe_tally expected = nothing;
     size_t i;
     expected.gmin = 2;
     expected.spacing = 1000;
-    expected.event = NUVASKOE_LOST;
+    expected.event = NUVASKOE_EVENT_LOST;
     CHECK(answer.refusal.number == NUVASKOE_OK && same_tally(answer.tally, expected));
-    CHECK(figured(nuvaskoe_tally_close(answer.tally), NONE, NONE, NONE, NONE));
+    CHECK(figured(nuvaskoe_tally_close(answer.tally), NUVASKOE_UNAVAILABLE, NUVASKOE_UNAVAILABLE, NUVASKOE_UNAVAILABLE, NUVASKOE_UNAVAILABLE));
     for (i = 0; i < sizeof p6; i++) {
-        nuvaskoe_figured whole = nuvaskoe_figures(p6, i + 1, 2, 1000, NUVASKOE_LOST);
-        CHECK(not_taken(answer.tally, 3, NUVASKOE_TRACE_BYTE));
-        CHECK(not_taken(answer.tally, 255, NUVASKOE_TRACE_BYTE));
+        nuvaskoe_figured whole = nuvaskoe_figures(p6, i + 1, 2, 1000, NUVASKOE_EVENT_LOST);
+        CHECK(not_taken(answer.tally, 3, NUVASKOE_REFUSAL_TRACE_BYTE));
+        CHECK(not_taken(answer.tally, 255, NUVASKOE_REFUSAL_TRACE_BYTE));
         answer = nuvaskoe_tally_take(answer.tally, p6[i]);
         CHECK(answer.refusal.number == NUVASKOE_OK && answer.refusal.place == 0);
         CHECK(whole.refusal.number == NUVASKOE_OK);
@@ -179,36 +161,36 @@ static void check_tally_refused(void)
     CHECK(nuvaskoe_tally_take(tally, 0).refusal.number == NUVASKOE_OK);
     for (i = 0; i < 6; i++) {
         nuvaskoe_tallied answer = nuvaskoe_tally_open(settings[i][0], settings[i][1], settings[i][2]);
-        CHECK(answer.refusal.number == NUVASKOE_SETTING && answer.refusal.place == 0);
+        CHECK(answer.refusal.number == NUVASKOE_REFUSAL_SETTING && answer.refusal.place == 0);
         CHECK(same_tally(answer.tally, nothing));
         tally.gmin = settings[i][0];
         tally.spacing = settings[i][1];
         tally.event = settings[i][2];
-        CHECK(not_taken(tally, 0, NUVASKOE_SETTING));
-        CHECK(not_taken(tally, 3, NUVASKOE_SETTING));
-        CHECK(not_figured(nuvaskoe_tally_close(tally), NUVASKOE_SETTING, 0));
+        CHECK(not_taken(tally, 0, NUVASKOE_REFUSAL_SETTING));
+        CHECK(not_taken(tally, 3, NUVASKOE_REFUSAL_SETTING));
+        CHECK(not_figured(nuvaskoe_tally_close(tally), NUVASKOE_REFUSAL_SETTING, 0));
     }
     tally = odd_tally();
     tally.event = UINT32_MAX;
-    CHECK(not_taken(tally, 0, NUVASKOE_SETTING));
+    CHECK(not_taken(tally, 0, NUVASKOE_REFUSAL_SETTING));
     tally = odd_tally();
     tally.sums.squares = UINT64_MAX;
-    CHECK(not_taken(tally, 0, NUVASKOE_SETTING));
-    CHECK(not_figured(nuvaskoe_tally_close(tally), NUVASKOE_SETTING, 0));
+    CHECK(not_taken(tally, 0, NUVASKOE_REFUSAL_SETTING));
+    CHECK(not_figured(nuvaskoe_tally_close(tally), NUVASKOE_REFUSAL_SETTING, 0));
     tally = odd_tally();
     tally.stretch.since = 21;
-    CHECK(not_taken(tally, 1, NUVASKOE_SETTING));
+    CHECK(not_taken(tally, 1, NUVASKOE_REFUSAL_SETTING));
     tally.stretch.since = UINT64_MAX;
-    CHECK(not_taken(tally, 1, NUVASKOE_SETTING));
+    CHECK(not_taken(tally, 1, NUVASKOE_REFUSAL_SETTING));
     tally = nothing;
-    CHECK(not_taken(tally, 0, NUVASKOE_SETTING));
-    CHECK(not_figured(nuvaskoe_tally_close(tally), NUVASKOE_SETTING, 0));
+    CHECK(not_taken(tally, 0, NUVASKOE_REFUSAL_SETTING));
+    CHECK(not_figured(nuvaskoe_tally_close(tally), NUVASKOE_REFUSAL_SETTING, 0));
 }
 
 /* Blocks hold the figures as given, and those of a trace are added and read back. */
 static void check_blocks(void)
 {
-    nuvaskoe_burst_figures figures = nuvaskoe_figures(p6, sizeof p6, 2, 1000, NUVASKOE_LOST).figures;
+    nuvaskoe_burst_figures figures = nuvaskoe_figures(p6, sizeof p6, 2, 1000, NUVASKOE_EVENT_LOST).figures;
     nuvaskoe_loss_summary loss = nuvaskoe_loss_block(figures, 0x01020304, 3);
     nuvaskoe_discard_summary discard = nuvaskoe_discard_block(figures, 0x05060708, 2);
     static const uint32_t expected[6] = {3, 0x01020304, 26214, 5461, 2, 2};
@@ -223,7 +205,7 @@ static void check_blocks(void)
     CHECK(nuvaskoe_packet_add_loss(packet, sizeof packet, loss).size == 24);
     CHECK(nuvaskoe_packet_add_discard(packet, sizeof packet, discard).size == 36);
     block = nuvaskoe_block_read(packet[8], packet[9], packet + 12, 12);
-    CHECK(block.type == 17 && block.verdict == NUVASKOE_TYPED);
+    CHECK(block.block_type == 17 && block.verdict == NUVASKOE_VERDICT_TYPED);
     CHECK(memcmp(block.fields, expected, sizeof expected) == 0);
     figures.burst_rate = 1;
     figures.gap_rate = 32769;
@@ -246,10 +228,5 @@ int main(void)
     check_tally();
     check_tally_refused();
     check_blocks();
-    if (failures != 0) {
-        fprintf(stderr, "figures.c: %d of %d checks failed\n", failures, checks);
-        return 1;
-    }
-    printf("figures.c: %d checks passed\n", checks);
-    return 0;
+    return checked("figures.c");
 }

@@ -1,26 +1,10 @@
 /* resend.c: effective loss and the resend plan through the C boundary, by plain comparisons. */
-#include <stdio.h>
 #include <string.h>
 
-#include "nuvaskoe.h"
-
-static int checks;
-static int failures;
-
-#define CHECK(condition)                                                        \
-    do {                                                                        \
-        checks++;                                                               \
-        if (!(condition)) {                                                     \
-            failures++;                                                         \
-            fprintf(stderr, "%s:%d: not so: %s\n", __FILE__, __LINE__, #condition); \
-        }                                                                       \
-    } while (0)
+#include "check.h"
 
 /* What a buffer holds before a call; no byte of a plan is this. */
 #define HELD 0xA5
-
-/* The most packets of a trace. */
-#define LONGEST 65536
 
 /* The losses of document 01's first example, and the plan for B 3 and T 1. */
 static const uint8_t losses[9] = { 0, 1, 1, 0, 1, 0, 1, 0, 0 };
@@ -29,8 +13,8 @@ static const uint8_t its_plan[9] = { 0, 0, 1, 0, 0, 0, 1, 0, 0 };
 static const uint8_t received[3] = { 0, 0, 0 };
 static const uint8_t lost[3] = { 1, 1, 1 };
 
-static uint8_t trace[LONGEST + 1];
-static uint8_t out[LONGEST + 4];
+static uint8_t trace[NUVASKOE_TRACE_MAX + 1];
+static uint8_t out[NUVASKOE_TRACE_MAX + 4];
 
 static int loss_is(nuvaskoe_loss answer, size_t over, size_t batches, uint32_t index)
 {
@@ -87,7 +71,7 @@ static void check_examples(void)
     CHECK(loss_is(loss, 0, 1, 0) && none_over(loss));
     loss = nuvaskoe_effective_loss(lost, 3, 1, 0);
     CHECK(loss_is(loss, 3, 3, 65535) && first_is(loss, 0));
-    CHECK(loss_refused(nuvaskoe_effective_loss(lost, 1, 2, 0), NUVASKOE_BATCH_LENGTH, 0));
+    CHECK(loss_refused(nuvaskoe_effective_loss(lost, 1, 2, 0), NUVASKOE_REFUSAL_BATCH_LENGTH, 0));
 
     memset(out, HELD, sizeof out);
     CHECK(marked(nuvaskoe_resend_plan(losses, 9, 3, 1, out, sizeof out), 2));
@@ -129,23 +113,23 @@ static void check_refusals(void)
 
     memset(trace, 3, sizeof trace);
     memset(out, HELD, sizeof out);
-    CHECK(loss_refused(nuvaskoe_effective_loss(trace, 0, 0, 0), NUVASKOE_SETTING, 0));
-    CHECK(loss_refused(nuvaskoe_effective_loss(trace, 0, 1025, 0), NUVASKOE_SETTING, 0));
-    CHECK(loss_refused(nuvaskoe_effective_loss(trace, 0, 1, 1025), NUVASKOE_SETTING, 0));
-    CHECK(loss_refused(nuvaskoe_effective_loss(trace, 0, 1024, 1024), NUVASKOE_TRACE_LENGTH, 0));
-    CHECK(loss_refused(nuvaskoe_effective_loss(trace, LONGEST + 1, 1, 0), NUVASKOE_TRACE_LENGTH, 0));
-    CHECK(loss_refused(nuvaskoe_effective_loss(bad, 5, 6, 0), NUVASKOE_TRACE_BYTE, 3));
-    CHECK(loss_refused(nuvaskoe_effective_loss(bad, 3, 4, 0), NUVASKOE_BATCH_LENGTH, 0));
+    CHECK(loss_refused(nuvaskoe_effective_loss(trace, 0, 0, 0), NUVASKOE_REFUSAL_SETTING, 0));
+    CHECK(loss_refused(nuvaskoe_effective_loss(trace, 0, 1025, 0), NUVASKOE_REFUSAL_SETTING, 0));
+    CHECK(loss_refused(nuvaskoe_effective_loss(trace, 0, 1, 1025), NUVASKOE_REFUSAL_SETTING, 0));
+    CHECK(loss_refused(nuvaskoe_effective_loss(trace, 0, 1024, 1024), NUVASKOE_REFUSAL_TRACE_LENGTH, 0));
+    CHECK(loss_refused(nuvaskoe_effective_loss(trace, NUVASKOE_TRACE_MAX + 1, 1, 0), NUVASKOE_REFUSAL_TRACE_LENGTH, 0));
+    CHECK(loss_refused(nuvaskoe_effective_loss(bad, 5, 6, 0), NUVASKOE_REFUSAL_TRACE_BYTE, 3));
+    CHECK(loss_refused(nuvaskoe_effective_loss(bad, 3, 4, 0), NUVASKOE_REFUSAL_BATCH_LENGTH, 0));
     CHECK(loss_is(nuvaskoe_effective_loss(bad, 3, 3, 1024), 0, 1, 0));
 
-    CHECK(plan_refused(nuvaskoe_resend_plan(trace, 0, 0, 0, out, 0), NUVASKOE_SETTING, 0));
-    CHECK(plan_refused(nuvaskoe_resend_plan(trace, 0, 1, UINT32_MAX, out, 0), NUVASKOE_SETTING, 0));
-    CHECK(plan_refused(nuvaskoe_resend_plan(trace, 0, 1, 0, out, 0), NUVASKOE_TRACE_LENGTH, 0));
-    CHECK(plan_refused(nuvaskoe_resend_plan(trace, LONGEST + 1, 1, 0, out, 0), NUVASKOE_TRACE_LENGTH, 0));
-    CHECK(plan_refused(nuvaskoe_resend_plan(bad, 5, 6, 0, out, 4), NUVASKOE_TRACE_BYTE, 3));
-    CHECK(plan_refused(nuvaskoe_resend_plan(bad, 3, 4, 0, out, 2), NUVASKOE_BATCH_LENGTH, 0));
-    CHECK(plan_refused(nuvaskoe_resend_plan(bad, 3, 3, 0, out, 2), NUVASKOE_BUFFER_SHORT, 0));
-    CHECK(plan_refused(nuvaskoe_resend_plan(losses, 9, 3, 1, out, 8), NUVASKOE_BUFFER_SHORT, 0));
+    CHECK(plan_refused(nuvaskoe_resend_plan(trace, 0, 0, 0, out, 0), NUVASKOE_REFUSAL_SETTING, 0));
+    CHECK(plan_refused(nuvaskoe_resend_plan(trace, 0, 1, UINT32_MAX, out, 0), NUVASKOE_REFUSAL_SETTING, 0));
+    CHECK(plan_refused(nuvaskoe_resend_plan(trace, 0, 1, 0, out, 0), NUVASKOE_REFUSAL_TRACE_LENGTH, 0));
+    CHECK(plan_refused(nuvaskoe_resend_plan(trace, NUVASKOE_TRACE_MAX + 1, 1, 0, out, 0), NUVASKOE_REFUSAL_TRACE_LENGTH, 0));
+    CHECK(plan_refused(nuvaskoe_resend_plan(bad, 5, 6, 0, out, 4), NUVASKOE_REFUSAL_TRACE_BYTE, 3));
+    CHECK(plan_refused(nuvaskoe_resend_plan(bad, 3, 4, 0, out, 2), NUVASKOE_REFUSAL_BATCH_LENGTH, 0));
+    CHECK(plan_refused(nuvaskoe_resend_plan(bad, 3, 3, 0, out, 2), NUVASKOE_REFUSAL_BUFFER_SHORT, 0));
+    CHECK(plan_refused(nuvaskoe_resend_plan(losses, 9, 3, 1, out, 8), NUVASKOE_REFUSAL_BUFFER_SHORT, 0));
     CHECK(held(0));
 }
 
@@ -156,21 +140,21 @@ static void check_longest(void)
 
     memset(trace, 1, sizeof trace);
     memset(out, HELD, sizeof out);
-    loss = nuvaskoe_effective_loss(trace, LONGEST, 1, 0);
+    loss = nuvaskoe_effective_loss(trace, NUVASKOE_TRACE_MAX, 1, 0);
     CHECK(loss_is(loss, 65536, 65536, 65535) && first_is(loss, 0));
-    CHECK(plan_refused(nuvaskoe_resend_plan(trace, LONGEST, 1, 0, out, LONGEST - 1), NUVASKOE_BUFFER_SHORT, 0));
+    CHECK(plan_refused(nuvaskoe_resend_plan(trace, NUVASKOE_TRACE_MAX, 1, 0, out, NUVASKOE_TRACE_MAX - 1), NUVASKOE_REFUSAL_BUFFER_SHORT, 0));
     CHECK(held(0));
-    CHECK(marked(nuvaskoe_resend_plan(trace, LONGEST, 1, 0, out, sizeof out), 65536));
-    CHECK(memcmp(out, trace, LONGEST) == 0);
-    CHECK(held(LONGEST));
-    CHECK(marked(nuvaskoe_resend_plan(trace, LONGEST, 1024, 1000, out, LONGEST), 1536));
+    CHECK(marked(nuvaskoe_resend_plan(trace, NUVASKOE_TRACE_MAX, 1, 0, out, sizeof out), 65536));
+    CHECK(memcmp(out, trace, NUVASKOE_TRACE_MAX) == 0);
+    CHECK(held(NUVASKOE_TRACE_MAX));
+    CHECK(marked(nuvaskoe_resend_plan(trace, NUVASKOE_TRACE_MAX, 1024, 1000, out, NUVASKOE_TRACE_MAX), 1536));
 
     memset(trace, 2, sizeof trace);
-    trace[LONGEST - 1] = 1;
-    loss = nuvaskoe_effective_loss(trace, LONGEST, 1024, 0);
+    trace[NUVASKOE_TRACE_MAX - 1] = 1;
+    loss = nuvaskoe_effective_loss(trace, NUVASKOE_TRACE_MAX, 1024, 0);
     CHECK(loss_is(loss, 1, 64513, 1) && first_is(loss, 64512));
-    trace[LONGEST - 1] = 4;
-    CHECK(loss_refused(nuvaskoe_effective_loss(trace, LONGEST, 1, 0), NUVASKOE_TRACE_BYTE, 65535));
+    trace[NUVASKOE_TRACE_MAX - 1] = 4;
+    CHECK(loss_refused(nuvaskoe_effective_loss(trace, NUVASKOE_TRACE_MAX, 1, 0), NUVASKOE_REFUSAL_TRACE_BYTE, 65535));
 }
 
 int main(void)
@@ -179,10 +163,5 @@ int main(void)
     check_resent();
     check_refusals();
     check_longest();
-    if (failures != 0) {
-        fprintf(stderr, "resend.c: %d of %d checks failed\n", failures, checks);
-        return 1;
-    }
-    printf("resend.c: %d checks passed\n", checks);
-    return 0;
+    return checked("resend.c");
 }

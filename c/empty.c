@@ -1,0 +1,95 @@
+/* empty.c: no bytes at all, handed in as NULL with length 0 through every call that is lent a buffer; the version; and
+ * the words of refusals and reasons. */
+#include <string.h>
+
+#include "check.h"
+
+static const nuvaskoe_settings settings = {16, 100, 10, 400};
+
+static int refused(nuvaskoe_refusal refusal, uint32_t number)
+{
+    return refusal.number == number && refusal.place == 0;
+}
+
+static void check_reading(void)
+{
+    uint32_t held = 7;
+    nuvaskoe_part body = nuvaskoe_packet_body(NULL, 0, 0);
+
+    CHECK(refused(nuvaskoe_card_read(NULL, 0).refusal, NUVASKOE_REFUSAL_CARD_DIGITS));
+    CHECK(refused(nuvaskoe_packet_read(NULL, 0).refusal, NUVASKOE_REFUSAL_PACKET_SHORT));
+    CHECK(refused(nuvaskoe_packet_block(NULL, 0, 0).refusal, NUVASKOE_REFUSAL_PACKET_SHORT));
+    CHECK(body.start == 0 && body.length == 0);
+    CHECK(refused(nuvaskoe_packet_list(NULL, 0, &held, 1).refusal, NUVASKOE_REFUSAL_PACKET_SHORT));
+    CHECK(held == 7);
+    CHECK(refused(nuvaskoe_packet_list(NULL, 0, NULL, 0).refusal, NUVASKOE_REFUSAL_PACKET_SHORT));
+    CHECK(nuvaskoe_block_read(9, 0, NULL, 0).verdict == NUVASKOE_VERDICT_UNKNOWN);
+    CHECK(nuvaskoe_block_read(NUVASKOE_BLOCK_LOSS, 64, NULL, 0).verdict == NUVASKOE_VERDICT_BAD_SIZE);
+}
+
+/* A packet without blocks needs no entry, so its list may be NULL too. */
+static void check_empty_list(void)
+{
+    uint8_t packet[8];
+    nuvaskoe_written listed;
+
+    CHECK(nuvaskoe_packet_new(1, packet, sizeof packet).size == sizeof packet);
+    listed = nuvaskoe_packet_list(packet, sizeof packet, NULL, 0);
+    CHECK(refused(listed.refusal, NUVASKOE_OK) && listed.size == 0);
+}
+
+static void check_writing(void)
+{
+    nuvaskoe_measurement measurement = {0, 0, 0, 0, 0, 0, 0};
+    nuvaskoe_loss_summary loss = {1, 0, 0, 0, 0, 0};
+    nuvaskoe_discard_summary discard = {1, 0, 0, 0};
+    nuvaskoe_effective_summary effective = {0, 0};
+    nuvaskoe_stream_counts streams = {0, 0, 0, 0, 0, 0, 0, 0, 0, 0, 0, 0};
+
+    CHECK(refused(nuvaskoe_card_write(settings, NULL, 0).refusal, NUVASKOE_REFUSAL_BUFFER_SHORT));
+    CHECK(refused(nuvaskoe_packet_new(1, NULL, 0).refusal, NUVASKOE_REFUSAL_BUFFER_SHORT));
+    CHECK(refused(nuvaskoe_packet_add_measurement(NULL, 0, measurement).refusal, NUVASKOE_REFUSAL_PACKET_SHORT));
+    CHECK(refused(nuvaskoe_packet_add_loss(NULL, 0, loss).refusal, NUVASKOE_REFUSAL_PACKET_SHORT));
+    CHECK(refused(nuvaskoe_packet_add_discard(NULL, 0, discard).refusal, NUVASKOE_REFUSAL_PACKET_SHORT));
+    CHECK(refused(nuvaskoe_packet_add_effective(NULL, 0, effective).refusal, NUVASKOE_REFUSAL_PACKET_SHORT));
+    CHECK(refused(nuvaskoe_packet_add_streams(NULL, 0, streams).refusal, NUVASKOE_REFUSAL_PACKET_SHORT));
+}
+
+static void check_traces(void)
+{
+    const uint8_t lost = 1;
+
+    CHECK(refused(nuvaskoe_figures(NULL, 0, 16, 400, NUVASKOE_EVENT_LOST).refusal, NUVASKOE_REFUSAL_TRACE_LENGTH));
+    CHECK(refused(nuvaskoe_effective_loss(NULL, 0, 1, 0).refusal, NUVASKOE_REFUSAL_TRACE_LENGTH));
+    CHECK(refused(nuvaskoe_resend_plan(NULL, 0, 1, 0, NULL, 0).refusal, NUVASKOE_REFUSAL_TRACE_LENGTH));
+    CHECK(refused(nuvaskoe_resend_plan(&lost, 1, 1, 0, NULL, 0).refusal, NUVASKOE_REFUSAL_BUFFER_SHORT));
+}
+
+/* Every refusal and reason has its words, and no other number has any. */
+static void check_words(void)
+{
+    uint32_t number;
+
+    for (number = NUVASKOE_REFUSAL_PACKET_SHORT; number <= NUVASKOE_REFUSAL_PACKET_FULL; number++) {
+        CHECK(nuvaskoe_refusal_meaning(number)[0] != '\0');
+        CHECK(nuvaskoe_refusal_advice(number)[0] != '\0');
+    }
+    CHECK(strcmp(nuvaskoe_refusal_meaning(NUVASKOE_REFUSAL_CARD_CHECK), "the card's check does not fit") == 0);
+    CHECK(nuvaskoe_refusal_meaning(NUVASKOE_OK)[0] == '\0' && nuvaskoe_refusal_advice(NUVASKOE_OK)[0] == '\0');
+    CHECK(nuvaskoe_refusal_meaning(NUVASKOE_REFUSAL_PACKET_FULL + 1)[0] == '\0');
+    for (number = NUVASKOE_VERDICT_BAD_SIZE; number <= NUVASKOE_VERDICT_UNMEASURED; number++) {
+        CHECK(nuvaskoe_reason_meaning(number)[0] != '\0');
+    }
+    CHECK(nuvaskoe_reason_meaning(NUVASKOE_VERDICT_TYPED)[0] == '\0');
+}
+
+int main(void)
+{
+    CHECK(nuvaskoe_version() == NUVASKOE_VERSION);
+    check_reading();
+    check_empty_list();
+    check_writing();
+    check_traces();
+    check_words();
+    return checked("empty.c");
+}
