@@ -1,0 +1,58 @@
+#!/usr/bin/env python3
+"""Holds docs/PROMISES.md to the must-fail edits: the page names every edit, and nothing that is no edit.
+
+Run in the repository's root. Prints one line for each difference; exit status 1 where there is one. How a name on
+the page belongs to a crate is said in the page's first paragraph.
+`--try` runs it on a small page with right and wrong edits instead, and fails unless it tells which are wrong.
+"""
+import pathlib
+import re
+import sys
+
+BOUNDARY = {"nuvaskoe"}
+
+
+def names(page):
+    """Each name that the page gives to a wrong program, with the crates that may hold its edit."""
+    heading = set()
+    for paragraph in re.split(r"\n\s*\n|\n(?=##)", page):
+        if paragraph.startswith("##"):
+            heading = set(re.findall(r"\b(\w+)::", paragraph.splitlines()[0]))
+        for sentence in re.split(r"(?<=\.)\s+", paragraph.strip()):
+            begins = re.match(r"Shut\s+out|Boundary", sentence)
+            for name in re.findall(r"`([^`]*)`", sentence) if begins else ():
+                crate, slash, rest = name.partition("/")
+                own = BOUNDARY if begins.group() == "Boundary" else heading
+                yield (rest, {crate}) if slash else (name, own)
+
+
+def differences(page, edits):
+    """What page and edits, the latter pairs of a crate and a name, do not have in common."""
+    told, unnamed = [], set(edits)
+    for name, crates in names(page):
+        meant = {(crate, name) for crate in crates} & edits
+        unnamed -= meant
+        if not meant:
+            others = [crate for crate, other in sorted(edits) if other == name]
+            told.append(f"{name}: no edit of {' or '.join(sorted(crates)) or 'any crate'}"
+                        + (f", but of {' and '.join(others)}" if others else ""))
+    return told + [f"crates/{crate}/must-fail/{name}.edit: not named" for crate, name in sorted(unnamed)]
+
+
+def try_out():
+    """Whether a small page is clean with its edits, and not with one more, one less, or one in another crate."""
+    edits = {("a", "one"), ("b", "two"), ("nuvaskoe", "three")}
+    page = "## a::f, g\n\nOf `x`. Shut\nout: this (`one`); that (`b/two`). Law `y`. Boundary: so (`three`).\n"
+    return (differences(page, edits) == []
+            and differences(page, edits | {("a", "four")}) == ["crates/a/must-fail/four.edit: not named"]
+            and differences(page, edits - {("a", "one")}) == ["one: no edit of a"]
+            and differences(page, edits - {("b", "two")} | {("a", "two")})
+            == ["two: no edit of b, but of a", "crates/a/must-fail/two.edit: not named"])
+
+
+if sys.argv[1:] == ["--try"]:
+    sys.exit(None if try_out() else "wrong_programs.py: the small page came out wrong")
+lines = differences(pathlib.Path("docs/PROMISES.md").read_text(),
+                    {(path.parts[1], path.stem) for path in pathlib.Path("crates").glob("*/must-fail/*.edit")})
+print("\n".join(lines) or "every wrong program is named, and every name is one")
+sys.exit(bool(lines))
