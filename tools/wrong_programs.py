@@ -9,8 +9,6 @@ import pathlib
 import re
 import sys
 
-BOUNDARY = {"nuvaskoe"}
-
 
 def names(page):
     """Each name that the page gives to a wrong program, with the crates that may hold its edit."""
@@ -19,11 +17,9 @@ def names(page):
         if paragraph.startswith("##"):
             heading = set(re.findall(r"\b(\w+)::", paragraph.splitlines()[0]))
         for sentence in re.split(r"(?<=\.)\s+", paragraph.strip()):
-            begins = re.match(r"Shut\s+out|Boundary", sentence)
-            for name in re.findall(r"`([^`]*)`", sentence) if begins else ():
+            for name in re.findall(r"`([^`]*)`", sentence) if re.match(r"Shut\s+out", sentence) else ():
                 crate, slash, rest = name.partition("/")
-                own = BOUNDARY if begins.group() == "Boundary" else heading
-                yield (rest, {crate}) if slash else (name, own)
+                yield (rest, {crate}) if slash else (name, heading)
 
 
 def differences(page, edits):
@@ -41,8 +37,8 @@ def differences(page, edits):
 
 def try_out():
     """Whether a small page is clean with its edits, and not with one more, one less, or one in another crate."""
-    edits = {("a", "one"), ("b", "two"), ("nuvaskoe", "three")}
-    page = "## a::f, g\n\nOf `x`. Shut\nout: this (`one`); that (`b/two`). Law `y`. Boundary: so (`three`).\n"
+    edits = {("a", "one"), ("b", "two"), ("c", "three")}
+    page = "## a::f, g\n\nOf `x`. Shut\nout: this (`one`); that (`b/two`). Law `y`.\n\n## c::h\n\nShut out: so (`three`).\n"
     return (differences(page, edits) == []
             and differences(page, edits | {("a", "four")}) == ["crates/a/must-fail/four.edit: not named"]
             and differences(page, edits - {("a", "one")}) == ["one: no edit of a"]
