@@ -44,10 +44,10 @@ enum {
     NUVASKOE_REFUSAL_PACKET_TYPE = 3, /* its second byte is not 207 */
     NUVASKOE_REFUSAL_PACKET_LENGTH = 4, /* its length field does not fit its bytes */
     NUVASKOE_REFUSAL_PADDING = 5, /* its padding bit is set */
-    NUVASKOE_REFUSAL_BLOCK_PAST_END = 6, /* a block, at offset P, runs past the end */
+    NUVASKOE_REFUSAL_BLOCK_PAST_END = 6, /* a block runs past the end */
     NUVASKOE_REFUSAL_NO_SUCH_BLOCK = 7, /* it has no block with that number */
     NUVASKOE_REFUSAL_BUFFER_SHORT = 8, /* the buffer is too short for the result */
-    NUVASKOE_REFUSAL_TRACE_BYTE = 9, /* a byte of the trace, at index P, is above 2 (P is 0 for a tally) */
+    NUVASKOE_REFUSAL_TRACE_BYTE = 9, /* a byte of the trace is above 2 */
     NUVASKOE_REFUSAL_TRACE_LENGTH = 10, /* the trace is empty or over 65,536 packets, or a tally is full */
     NUVASKOE_REFUSAL_CARD_DIGITS = 11, /* the card is not exactly twenty digits */
     NUVASKOE_REFUSAL_CARD_CHECK = 12, /* the card's check does not fit */
@@ -453,13 +453,13 @@ static inline const char *nuvaskoe_refusal_meaning(uint32_t number)
     case NUVASKOE_REFUSAL_PADDING:
         return "its padding bit is set";
     case NUVASKOE_REFUSAL_BLOCK_PAST_END:
-        return "a block, at offset P, runs past the end";
+        return "a block runs past the end";
     case NUVASKOE_REFUSAL_NO_SUCH_BLOCK:
         return "it has no block with that number";
     case NUVASKOE_REFUSAL_BUFFER_SHORT:
         return "the buffer is too short for the result";
     case NUVASKOE_REFUSAL_TRACE_BYTE:
-        return "a byte of the trace, at index P, is above 2 (P is 0 for a tally)";
+        return "a byte of the trace is above 2";
     case NUVASKOE_REFUSAL_TRACE_LENGTH:
         return "the trace is empty or over 65,536 packets, or a tally is full";
     case NUVASKOE_REFUSAL_CARD_DIGITS:

@@ -17,13 +17,13 @@ pub enum RefusalKind {
     PacketLength = 4,
     /// Its padding bit is set.
     Padding = 5,
-    /// A block, at offset P, runs past the end.
+    /// A block runs past the end.
     BlockPastEnd = 6,
     /// It has no block with that number.
     NoSuchBlock = 7,
     /// The buffer is too short for the result.
     BufferShort = 8,
-    /// A byte of the trace, at index P, is above 2 (P is 0 for a tally).
+    /// A byte of the trace is above 2.
     TraceByte = 9,
     /// The trace is empty or over 65,536 packets, or a tally is full.
     TraceLength = 10,
@@ -84,10 +84,10 @@ impl RefusalKind {
             RefusalKind::PacketType => "its second byte is not 207",
             RefusalKind::PacketLength => "its length field does not fit its bytes",
             RefusalKind::Padding => "its padding bit is set",
-            RefusalKind::BlockPastEnd => "a block, at offset P, runs past the end",
+            RefusalKind::BlockPastEnd => "a block runs past the end",
             RefusalKind::NoSuchBlock => "it has no block with that number",
             RefusalKind::BufferShort => "the buffer is too short for the result",
-            RefusalKind::TraceByte => "a byte of the trace, at index P, is above 2 (P is 0 for a tally)",
+            RefusalKind::TraceByte => "a byte of the trace is above 2",
             RefusalKind::TraceLength => "the trace is empty or over 65,536 packets, or a tally is full",
             RefusalKind::CardDigits => "the card is not exactly twenty digits",
             RefusalKind::CardCheck => "the card's check does not fit",
