@@ -1,7 +1,4 @@
-/* empty.c: no bytes at all, handed in as NULL with length 0 through every call that is lent a buffer; the version; and
- * the words of refusals and reasons. */
-#include <string.h>
-
+/* empty.c: no bytes at all, handed in as NULL with length 0 through every call that is lent a buffer. */
 #include "check.h"
 
 static const nuvaskoe_settings settings = {16, 100, 10, 400};
@@ -65,31 +62,11 @@ static void check_traces(void)
     CHECK(refused(nuvaskoe_resend_plan(&lost, 1, 1, 0, NULL, 0).refusal, NUVASKOE_REFUSAL_BUFFER_SHORT));
 }
 
-/* Every refusal and reason has its words, and no other number has any. */
-static void check_words(void)
-{
-    uint32_t number;
-
-    for (number = NUVASKOE_REFUSAL_PACKET_SHORT; number <= NUVASKOE_REFUSAL_PACKET_FULL; number++) {
-        CHECK(nuvaskoe_refusal_meaning(number)[0] != '\0');
-        CHECK(nuvaskoe_refusal_advice(number)[0] != '\0');
-    }
-    CHECK(strcmp(nuvaskoe_refusal_meaning(NUVASKOE_REFUSAL_CARD_CHECK), "the card's check does not fit") == 0);
-    CHECK(nuvaskoe_refusal_meaning(NUVASKOE_OK)[0] == '\0' && nuvaskoe_refusal_advice(NUVASKOE_OK)[0] == '\0');
-    CHECK(nuvaskoe_refusal_meaning(NUVASKOE_REFUSAL_PACKET_FULL + 1)[0] == '\0');
-    for (number = NUVASKOE_VERDICT_BAD_SIZE; number <= NUVASKOE_VERDICT_UNMEASURED; number++) {
-        CHECK(nuvaskoe_reason_meaning(number)[0] != '\0');
-    }
-    CHECK(nuvaskoe_reason_meaning(NUVASKOE_VERDICT_TYPED)[0] == '\0');
-}
-
 int main(void)
 {
-    CHECK(nuvaskoe_version() == NUVASKOE_VERSION);
     check_reading();
     check_empty_list();
     check_writing();
     check_traces();
-    check_words();
     return checked("empty.c");
 }
