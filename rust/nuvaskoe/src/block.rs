@@ -125,12 +125,12 @@ impl Verdict {
     /// reasons D1 to D4, 255 for unknown.
     pub fn number(&self) -> u32 {
         match self {
-            Verdict::Typed(_) => boundary::TYPED,
-            Verdict::Unknown => boundary::UNKNOWN,
-            Verdict::Dropped(Reason::BadSize) => boundary::BAD_SIZE,
-            Verdict::Dropped(Reason::BadFlag) => boundary::BAD_FLAG,
-            Verdict::Dropped(Reason::BadRate) => boundary::BAD_RATE,
-            Verdict::Dropped(Reason::Unmeasured) => boundary::UNMEASURED,
+            Verdict::Typed(_) => boundary::VERDICT_TYPED,
+            Verdict::Unknown => boundary::VERDICT_UNKNOWN,
+            Verdict::Dropped(Reason::BadSize) => boundary::VERDICT_BAD_SIZE,
+            Verdict::Dropped(Reason::BadFlag) => boundary::VERDICT_BAD_FLAG,
+            Verdict::Dropped(Reason::BadRate) => boundary::VERDICT_BAD_RATE,
+            Verdict::Dropped(Reason::Unmeasured) => boundary::VERDICT_UNMEASURED,
         }
     }
 }
@@ -158,21 +158,21 @@ impl Reading {
     /// The reading in an answer that is no refusal.
     pub(crate) fn new(answer: &boundary::Block) -> Reading {
         let verdict = match answer.verdict {
-            boundary::TYPED => Verdict::Typed(Block::new(answer.block_type, &answer.fields)),
+            boundary::VERDICT_TYPED => Verdict::Typed(Block::new(answer.kind, &answer.fields)),
             without_fields => {
                 unused(&answer.fields);
                 match without_fields {
-                    boundary::BAD_SIZE => Verdict::Dropped(Reason::BadSize),
-                    boundary::BAD_FLAG => Verdict::Dropped(Reason::BadFlag),
-                    boundary::BAD_RATE => Verdict::Dropped(Reason::BadRate),
-                    boundary::UNMEASURED => Verdict::Dropped(Reason::Unmeasured),
-                    boundary::UNKNOWN => Verdict::Unknown,
+                    boundary::VERDICT_BAD_SIZE => Verdict::Dropped(Reason::BadSize),
+                    boundary::VERDICT_BAD_FLAG => Verdict::Dropped(Reason::BadFlag),
+                    boundary::VERDICT_BAD_RATE => Verdict::Dropped(Reason::BadRate),
+                    boundary::VERDICT_UNMEASURED => Verdict::Dropped(Reason::Unmeasured),
+                    boundary::VERDICT_UNKNOWN => Verdict::Unknown,
                     other => unreachable!("verdict {other}"),
                 }
             }
         };
         Reading {
-            block_type: narrow(answer.block_type),
+            block_type: narrow(answer.kind),
             verdict,
         }
     }
@@ -301,7 +301,7 @@ impl From<&Discard> for boundary::DiscardSummary {
     }
 }
 
-impl From<&EffectiveLoss> for boundary::EffectiveLoss {
+impl From<&EffectiveLoss> for boundary::EffectiveSummary {
     fn from(block: &EffectiveLoss) -> Self {
         Self {
             source: block.source,
@@ -312,12 +312,22 @@ impl From<&EffectiveLoss> for boundary::EffectiveLoss {
 
 impl From<&TransportStream> for boundary::StreamCounts {
     fn from(block: &TransportStream) -> Self {
+        let [sync_losses, sync_byte_errors, continuity_errors, transport_errors, pcr @ .., pts_errors] =
+            block.counts;
+        let [pcr_errors, pcr_repetition_errors, pcr_discontinuity_errors] = pcr;
         Self {
             source: block.source,
             begin: block.begin,
             end: block.end,
             streams: block.streams,
-            counts: block.counts,
+            sync_losses,
+            sync_byte_errors,
+            continuity_errors,
+            transport_errors,
+            pcr_errors,
+            pcr_repetition_errors,
+            pcr_discontinuity_errors,
+            pts_errors,
         }
     }
 }

@@ -75,13 +75,16 @@ impl Figures {
 
 /// The figures in an answer, which are all unavailable where it is a refusal.
 pub(crate) fn measured(answer: boundary::Figured) -> Result<Figures, Refusal> {
-    let boundary::Figures {
+    let boundary::BurstFigures {
         burst_rate,
         gap_rate,
         burst_mean: mean,
         burst_variance: variance,
     } = answer.figures;
-    debug_assert!(answer.refusal.number == 0 || [burst_rate, gap_rate, mean, variance] == [boundary::UNAVAILABLE; 4]);
+    debug_assert!(
+        answer.refusal.number == 0
+            || [burst_rate, gap_rate, mean, variance] == [boundary::UNAVAILABLE; 4]
+    );
     answer.refusal.unless_refused(Figures {
         burst_rate,
         gap_rate,
@@ -90,7 +93,7 @@ pub(crate) fn measured(answer: boundary::Figured) -> Result<Figures, Refusal> {
     })
 }
 
-impl From<&Figures> for boundary::Figures {
+impl From<&Figures> for boundary::BurstFigures {
     fn from(figures: &Figures) -> Self {
         Self {
             burst_rate: figures.burst_rate,

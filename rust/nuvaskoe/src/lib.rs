@@ -4,43 +4,74 @@
 //! changes no byte of any buffer that it was lent.
 //!
 //! ```
-//! let settings = nuvaskoe::card::read(b"01600100000100040096").unwrap();
+//! use nuvaskoe::RefusalKind;
+//!
+//! let settings = nuvaskoe::card::read(b"01600100000100040096")?;
 //! assert_eq!(settings.gmin, 16);
-//! assert_eq!(nuvaskoe::card::read(b"0160").unwrap_err().number, 11);
+//! let refusal = nuvaskoe::card::read(b"0160").unwrap_err();
+//! assert_eq!(refusal.kind, RefusalKind::CardDigits);
 //!
 //! let packet = b"\x80\xCF\0\x04\0\0\0\x01\xF0\0\0\x02\0\0\0\x02\x92\x48\0\0";
-//! assert_eq!(nuvaskoe::packet::read(packet).unwrap().blocks, 1);
-//! assert_eq!(nuvaskoe::packet::block(packet, 0).unwrap().block_type, 240);
+//! assert_eq!(nuvaskoe::packet::read(packet)?.blocks, 1);
+//! assert_eq!(nuvaskoe::packet::block(packet, 0)?.block_type, 240);
 //! assert_eq!(nuvaskoe::packet::body(packet, 0), &packet[12..]);
+//! # Ok::<(), nuvaskoe::Refusal>(())
 //! ```
 #![deny(unsafe_op_in_unsafe_fn)]
 #![deny(missing_docs)]
 
 pub mod block;
+#[allow(dead_code)] // It is declared whole.
 mod boundary;
 pub mod card;
+pub mod effective;
 pub mod figures;
 pub mod packet;
+mod refusals;
+pub mod resend;
 pub mod tally;
 pub mod trace;
 
-pub mod effective;
-pub mod resend;
+pub use refusals::RefusalKind;
 
 use std::{error, fmt};
 
-/// Why a call said no.
-#[derive(Debug, Clone, Copy, PartialEq, Eq)]
+/// Why a call said no. Shown, it says what went wrong and what to do:
+///
+/// ```
+/// let refusal = nuvaskoe::card::read(b"01600100000010040096").unwrap_err();
+/// assert_eq!((refusal.number(), refusal.place), (12, 0));
+/// assert_eq!(
+///     refusal.to_string(),
+///     "refused 12 at 0: the card's check does not fit; \
+///      a digit is wrong, or two are exchanged: compare with the master card"
+/// );
+/// ```
+#[derive(Debug, Clone, Copy, PartialEq, Eq, Hash)]
 pub struct Refusal {
-    /// The number in the table of refusals, from 1.
-    pub number: u32,
-    /// The refusal's place; 0 where it has none.
+    /// Its row in the table of refusals.
+    pub kind: RefusalKind,
+    /// Its place; 0 where it has none.
     pub place: usize,
+}
+
+impl Refusal {
+    /// The number in the table of refusals, from 1.
+    pub fn number(&self) -> u32 {
+        self.kind.number()
+    }
 }
 
 impl fmt::Display for Refusal {
     fn fmt(&self, f: &mut fmt::Formatter<'_>) -> fmt::Result {
-        write!(f, "refused {} at {}", self.number, self.place)
+        let Refusal { kind, place } = self;
+        write!(f, "refused {} at {place}: ", kind.number())?;
+        // The table has P for the place.
+        match kind.meaning().split_once(" P ") {
+            Some((before, after)) => write!(f, "{before} {place} {after}")?,
+            None => f.write_str(kind.meaning())?,
+        }
+        write!(f, "; {}", kind.advice())
     }
 }
 
@@ -52,7 +83,8 @@ impl boundary::Refusal {
         match self.number {
             0 => Ok(rest),
             number => Err(Refusal {
-                number,
+                kind: RefusalKind::numbered(number)
+                    .unwrap_or_else(|| unreachable!("refusal {number}")),
                 place: self.place,
             }),
         }

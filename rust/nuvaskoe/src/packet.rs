@@ -42,7 +42,10 @@ pub fn block(packet: &[u8], index: usize) -> Result<Reading, Refusal> {
     match answer.refusal.unless_refused(()) {
         Ok(()) => Ok(Reading::new(&answer)),
         Err(refusal) => {
-            debug_assert_eq!((answer.block_type, answer.verdict), (0, boundary::UNKNOWN));
+            debug_assert_eq!(
+                (answer.kind, answer.verdict),
+                (0, boundary::VERDICT_UNKNOWN)
+            );
             debug_assert_eq!(answer.fields, [0; boundary::FIELDS]);
             Err(refusal)
         }
@@ -56,7 +59,7 @@ pub fn body(packet: &[u8], index: usize) -> &[u8] {
     // SAFETY: a slice's pointer is never null and is good for reading its length.
     let part = unsafe { boundary::nuvaskoe_packet_body(packet.as_ptr(), packet.len(), index) };
     packet
-        .get(part.offset..)
+        .get(part.start..)
         .and_then(|rest| rest.get(..part.length))
         .expect("a body lies in its packet")
 }

@@ -1,5 +1,7 @@
 //! Traces: one byte a packet, 0 received, 1 lost, 2 discarded, from 1 to 65,536 packets.
 
+use crate::boundary;
+
 /// The packets that are counted; all others count as received.
 #[derive(Debug, Clone, Copy, PartialEq, Eq)]
 pub enum Event {
@@ -13,16 +15,16 @@ impl Event {
     /// The number at the boundary, which is that of such a packet in a trace.
     pub(crate) fn number(self) -> u32 {
         match self {
-            Event::Lost => 1,
-            Event::Discarded => 2,
+            Event::Lost => boundary::EVENT_LOST,
+            Event::Discarded => boundary::EVENT_DISCARDED,
         }
     }
 
     /// The event with this number, in an answer that has one.
     pub(crate) fn numbered(number: u32) -> Event {
         match number {
-            1 => Event::Lost,
-            2 => Event::Discarded,
+            boundary::EVENT_LOST => Event::Lost,
+            boundary::EVENT_DISCARDED => Event::Discarded,
             other => unreachable!("event {other}"),
         }
     }

@@ -5,7 +5,8 @@ mod support;
 use independent::block::Block;
 use support::{
     adding::{add_both, add_lawfully, bytes_of, library_block, new_both, one_of_each},
-    compare::{compare, read_both, Answer},
+    answers::{self, Answer},
+    compare::{compare, read_both},
     packets::{block, listed, one_block, packet, LONGEST, P12},
     pattern,
 };
@@ -251,13 +252,9 @@ fn filled_block_by_block() {
     let mut theirs = ours.clone();
     let (mut size, mut count) = (8, 0);
     for added in one_of_each(5).iter().cycle() {
-        let answer = nuvaskoe::packet::add(&mut ours, &library_block(added));
-        let answer = answer.map_err(|refusal| (refusal.number, refusal.place));
+        let answer = answers::ours(nuvaskoe::packet::add(&mut ours, &library_block(added)));
         let independent = independent::compose::add(&mut theirs, added);
-        assert_eq!(
-            answer,
-            independent.map_err(|refusal| (refusal.number, refusal.place))
-        );
+        assert_eq!(answer, answers::theirs(independent));
         if size + bytes_of(added) > LONGEST {
             assert_eq!(answer, Err((17, 0)));
             break;

@@ -5,7 +5,8 @@ mod support;
 use independent::{block::Reading, burst::Figures, trace::Event};
 use support::{
     adding::{add_lawfully, writable},
-    compare::{block_both, Answer},
+    answers::Answer,
+    compare::block_both,
     from_env,
     measuring::{
         all_traces, any_figures, discard_block_both, figures_both, loss_block_both, random_gmin,

@@ -6,7 +6,7 @@ mod support;
 use independent::{burst::Figures, tally::Tally as Independent, trace::Event};
 use nuvaskoe::tally::{Stretch, Sums, Tally};
 use support::{
-    compare::Answer,
+    answers::Answer,
     from_env,
     measuring::{
         figures_both, library_event, random_gmin, random_spacing, random_trace, EVENTS, LONGEST,

@@ -2,7 +2,8 @@
 //! and blocks to add.
 
 use super::{
-    compare::{alone_both, block_both, read_both, shown, Answer},
+    answers::{ours, theirs, Answer},
+    compare::{alone_both, block_both, read_both, shown},
     packets::{RATES, SOURCES},
     pattern, Random,
 };
@@ -16,10 +17,8 @@ use nuvaskoe::block as library;
 /// answer and the buffer on which they agree.
 pub fn new_both(sender: u32, length: usize) -> (Answer<usize>, Vec<u8>) {
     let (mut library_out, mut independent_out) = (pattern(length), pattern(length));
-    let library = nuvaskoe::packet::new(sender, &mut library_out)
-        .map_err(|refusal| (refusal.number, refusal.place));
-    let independent = compose::new_packet(sender, &mut independent_out)
-        .map_err(|refusal| (refusal.number, refusal.place));
+    let library = ours(nuvaskoe::packet::new(sender, &mut library_out));
+    let independent = theirs(compose::new_packet(sender, &mut independent_out));
     assert_eq!(library, independent, "{length} bytes");
     assert_eq!(library_out, independent_out, "{length} bytes");
     let written = library.unwrap_or(0);
@@ -32,10 +31,8 @@ pub fn new_both(sender: u32, length: usize) -> (Answer<usize>, Vec<u8>) {
 pub fn add_both(buffer: &mut [u8], block: &Block) -> Answer<usize> {
     let before = buffer.to_vec();
     let mut independent_out = before.clone();
-    let library = nuvaskoe::packet::add(buffer, &library_block(block))
-        .map_err(|refusal| (refusal.number, refusal.place));
-    let independent = compose::add(&mut independent_out, block)
-        .map_err(|refusal| (refusal.number, refusal.place));
+    let library = ours(nuvaskoe::packet::add(buffer, &library_block(block)));
+    let independent = theirs(compose::add(&mut independent_out, block));
     assert_eq!(library, independent, "{block:?} to {}", shown(&before));
     assert!(
         buffer == independent_out,

@@ -1,7 +1,10 @@
 //! The library's effective loss and resend plan beside the independent ones, what holds of
 //! every answer, and traces.
 
-use super::{compare::Answer, pattern, Random};
+use super::{
+    answers::{ours, theirs, Answer},
+    pattern, Random,
+};
 use independent::{effective, resend};
 use nuvaskoe::effective::EffectiveLoss;
 
@@ -28,21 +31,18 @@ pub const SETTINGS: [u32; 14] = [
 
 /// The effective loss on which both agree, the independent one in its two forms.
 pub fn loss_both(trace: &[u8], batch: u32, threshold: u32) -> Answer<EffectiveLoss> {
-    let library = nuvaskoe::effective::effective_loss(trace, batch, threshold)
-        .map_err(|refusal| (refusal.number, refusal.place));
+    let library = ours(nuvaskoe::effective::effective_loss(trace, batch, threshold));
     let (b, t) = (u64::from(batch), u64::from(threshold));
     for independent in [
         effective::effective_loss(trace, b, t),
         effective::running_effective_loss(trace, b, t),
     ] {
-        let independent = independent
-            .map(|loss| EffectiveLoss {
-                over: loss.over as usize,
-                batches: loss.batches as usize,
-                index: loss.index,
-                first: loss.first,
-            })
-            .map_err(|refusal| (refusal.number, refusal.place));
+        let independent = theirs(independent).map(|loss| EffectiveLoss {
+            over: loss.over as usize,
+            batches: loss.batches as usize,
+            index: loss.index,
+            first: loss.first,
+        });
         assert!(
             library == independent,
             "{library:?} and {independent:?}: {}",
@@ -61,11 +61,10 @@ pub fn plan_into(
     before: &[u8],
 ) -> (Answer<usize>, Vec<u8>) {
     let (mut library_out, mut independent_out) = (before.to_vec(), before.to_vec());
-    let library = nuvaskoe::resend::plan(trace, batch, threshold, &mut library_out)
-        .map_err(|refusal| (refusal.number, refusal.place));
+    let library = nuvaskoe::resend::plan(trace, batch, threshold, &mut library_out);
+    let library = ours(library);
     let (b, t) = (u64::from(batch), u64::from(threshold));
-    let independent = resend::plan(trace, b, t, &mut independent_out)
-        .map_err(|refusal| (refusal.number, refusal.place));
+    let independent = theirs(resend::plan(trace, b, t, &mut independent_out));
     let shown = || shown(trace, batch, threshold);
     assert!(library == independent, "{library:?}: {}", shown());
     assert!(library_out == independent_out, "{}", shown());

@@ -1,7 +1,10 @@
 //! The library's settings card beside the independent one, and settings and cards to compare
 //! on.
 
-use super::{compare::Answer, pattern, Random};
+use super::{
+    answers::{ours, theirs, Answer},
+    pattern, Random,
+};
 use std::ops::RangeInclusive;
 
 /// The four settings in the card's order: Gmin, B, T, spacing.
@@ -22,12 +25,10 @@ pub fn random_fields(random: &mut Random) -> Fields {
 
 /// Reads `card` with both and gives the answer on which they agree.
 pub fn read_both(card: &[u8]) -> Answer<Fields> {
-    let library: Answer<Fields> = nuvaskoe::card::read(card)
-        .map(|s| [s.gmin, s.batch, s.threshold, s.spacing])
-        .map_err(|refusal| (refusal.number, refusal.place));
-    let independent: Answer<Fields> = independent::card::read(card)
-        .map(|s| [s.gmin, s.batch, s.threshold, s.spacing])
-        .map_err(|refusal| (refusal.number, refusal.place));
+    let library =
+        ours(nuvaskoe::card::read(card)).map(|s| [s.gmin, s.batch, s.threshold, s.spacing]);
+    let independent =
+        theirs(independent::card::read(card)).map(|s| [s.gmin, s.batch, s.threshold, s.spacing]);
     assert_eq!(library, independent, "card {}", card.escape_ascii());
     library
 }
@@ -43,16 +44,14 @@ pub fn write_both(fields: Fields, length: usize) -> (Answer<usize>, Vec<u8>) {
         threshold,
         spacing,
     };
-    let library = nuvaskoe::card::write(settings, &mut library_out)
-        .map_err(|refusal| (refusal.number, refusal.place));
+    let library = ours(nuvaskoe::card::write(settings, &mut library_out));
     let settings = independent::card::Settings {
         gmin,
         batch,
         threshold,
         spacing,
     };
-    let independent = independent::card::write(settings, &mut independent_out)
-        .map_err(|refusal| (refusal.number, refusal.place));
+    let independent = theirs(independent::card::write(settings, &mut independent_out));
     assert_eq!(library, independent, "{settings:?}, {length} bytes");
     assert_eq!(library_out, independent_out, "{settings:?}, {length} bytes");
     (library, library_out)

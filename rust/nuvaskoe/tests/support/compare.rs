@@ -1,12 +1,10 @@
 //! The library's five calls on packets and blocks, each beside the independent one.
 
+use super::answers::{ours, theirs, Answer};
 use independent::block::{
     Block, Discard, EffectiveLoss, Loss, Measurement, Reading, Reason, TransportStream,
 };
 use nuvaskoe::block as library;
-
-/// A good answer, or a refusal's number and place.
-pub type Answer<T> = Result<T, (u32, usize)>;
 
 /// Beyond this many blocks, only some are asked for by index.
 const ALL_INDICES: usize = 64;
@@ -43,21 +41,16 @@ pub fn verdicts(packet: &[u8]) -> Vec<u32> {
 }
 
 pub fn read_both(packet: &[u8]) -> Answer<(u32, usize)> {
-    let library = nuvaskoe::packet::read(packet)
-        .map(|summary| (summary.sender, summary.blocks))
-        .map_err(|refusal| (refusal.number, refusal.place));
-    let independent =
-        independent::packet::read(packet).map_err(|refusal| (refusal.number, refusal.place));
+    let library =
+        ours(nuvaskoe::packet::read(packet)).map(|summary| (summary.sender, summary.blocks));
+    let independent = theirs(independent::packet::read(packet));
     assert_eq!(library, independent, "packet {}", shown(packet));
     library
 }
 
 pub fn block_both(packet: &[u8], index: usize) -> Answer<(u8, Reading)> {
-    let library = nuvaskoe::packet::block(packet, index)
-        .map(translated)
-        .map_err(|refusal| (refusal.number, refusal.place));
-    let independent = independent::packet::block(packet, index)
-        .map_err(|refusal| (refusal.number, refusal.place));
+    let library = ours(nuvaskoe::packet::block(packet, index)).map(translated);
+    let independent = theirs(independent::packet::block(packet, index));
     assert_eq!(library, independent, "block {index} of {}", shown(packet));
     library
 }
@@ -116,10 +109,8 @@ pub fn body_both(packet: &[u8], index: usize) -> Answer<()> {
 pub fn list_both(packet: &[u8], length: usize) -> (Answer<usize>, Vec<u32>) {
     let before: Vec<u32> = (0..length as u32).map(|index| !index).collect();
     let (mut library_out, mut independent_out) = (before.clone(), before.clone());
-    let library = nuvaskoe::packet::list(packet, &mut library_out)
-        .map_err(|refusal| (refusal.number, refusal.place));
-    let independent = independent::packet::list_into(packet, &mut independent_out)
-        .map_err(|refusal| (refusal.number, refusal.place));
+    let library = ours(nuvaskoe::packet::list(packet, &mut library_out));
+    let independent = theirs(independent::packet::list_into(packet, &mut independent_out));
     assert_eq!(library, independent, "list of {}", shown(packet));
     assert_eq!(library_out, independent_out, "list of {}", shown(packet));
     let written = library.unwrap_or(0);

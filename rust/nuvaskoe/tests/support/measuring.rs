@@ -1,10 +1,14 @@
 //! The library's figures and their blocks beside the independent ones, and traces to measure.
 
-use super::{adding::library_block, batches::spoil, compare::Answer, Random};
+use super::{
+    adding::library_block,
+    answers::{ours, theirs, Answer},
+    batches::spoil,
+    Random,
+};
 use independent::{
     block::Block,
     burst::{self, Figures},
-    refusal::Refusal,
     trace::Event,
 };
 use nuvaskoe::{figures as library, trace};
@@ -19,14 +23,12 @@ pub const OVER_RANGE: u16 = burst::OVER_RANGE;
 /// answer on which they agree.
 pub fn figures_both(trace: &[u8], gmin: u32, spacing: u32, event: Event) -> Answer<Figures> {
     let library = library::of_trace(trace, gmin, spacing, library_event(event));
-    let library = library
-        .map(|figures| independent_figures(&figures))
-        .map_err(|refusal| (refusal.number, refusal.place));
+    let library = ours(library).map(|figures| independent_figures(&figures));
     let (wide_gmin, wide_spacing) = (u64::from(gmin), u64::from(spacing));
     for independent in [burst::figures, burst::running_figures] {
         assert_eq!(
             library,
-            independent(trace, wide_gmin, wide_spacing, event).map_err(refused),
+            theirs(independent(trace, wide_gmin, wide_spacing, event)),
             "{} packets {:?}, {gmin}, {spacing}, {event:?}",
             trace.len(),
             &trace[..trace.len().min(64)]
@@ -49,10 +51,6 @@ pub fn discard_block_both(figures: &Figures, source: u32, flag: u8) -> Block {
     let independent = burst::discard_block(figures, source, flag);
     assert_eq!(library, library_block(&independent), "{source}, {flag}");
     independent
-}
-
-pub fn refused(refusal: Refusal) -> (u32, usize) {
-    (refusal.number, refusal.place)
 }
 
 pub fn library_event(event: Event) -> trace::Event {

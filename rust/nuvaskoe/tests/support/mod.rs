@@ -4,6 +4,7 @@
 #![allow(dead_code)] // Each test file is its own crate and uses its own part.
 
 pub mod adding;
+pub mod answers;
 pub mod batches;
 pub mod calls;
 pub mod cards;

@@ -2,10 +2,10 @@
 //! trace leads to, and such as none does.
 
 use super::{
-    compare::Answer,
+    answers::{ours, theirs, Answer},
     measuring::{
         independent_event, independent_figures, library_event, random_gmin, random_spacing,
-        random_trace, refused, EVENTS, LONGEST,
+        random_trace, EVENTS, LONGEST,
     },
     Random,
 };
@@ -70,10 +70,9 @@ pub fn fields(tally: &Tally) -> [u64; FIELDS] {
 
 /// Opens a tally with both, and gives the answer on which they agree.
 pub fn open_both(gmin: u32, spacing: u32, event: Event) -> Answer<Tally> {
-    let library =
-        Tally::open(gmin, spacing, event).map_err(|refusal| (refusal.number, refusal.place));
+    let library = ours(Tally::open(gmin, spacing, event));
     let (gmin, spacing) = (gmin.into(), spacing.into());
-    let independent = Independent::open(gmin, spacing, independent_event(event)).map_err(refused);
+    let independent = theirs(Independent::open(gmin, spacing, independent_event(event)));
     let numbers = library.map(|tally| independent_tally(&tally));
     assert_eq!(numbers, independent, "{gmin}, {spacing}, {event:?}");
     library
@@ -83,9 +82,9 @@ pub fn open_both(gmin: u32, spacing: u32, event: Event) -> Answer<Tally> {
 /// on which they agree. A refused tally comes back as given.
 pub fn take_both(given: Tally, packet: u8) -> (Tally, Answer<()>) {
     let (next, library) = given.take(packet);
-    let library = library.map_err(|refusal| (refusal.number, refusal.place));
+    let library = ours(library);
     let (kept, independent) = independent_tally(&given).take(packet);
-    assert_eq!(library, independent.map_err(refused), "{given:?}, {packet}");
+    assert_eq!(library, theirs(independent), "{given:?}, {packet}");
     if library.is_err() {
         assert_eq!(next, given, "{packet}");
         assert_eq!(kept, independent_tally(&given), "{packet}");
@@ -99,11 +98,8 @@ pub fn take_both(given: Tally, packet: u8) -> (Tally, Answer<()>) {
 
 /// Closes the tally with both, and gives the answer on which they agree.
 pub fn close_both(given: Tally) -> Answer<Figures> {
-    let library = given
-        .close()
-        .map(|figures| independent_figures(&figures))
-        .map_err(|refusal| (refusal.number, refusal.place));
-    let independent = independent_tally(&given).close().map_err(refused);
+    let library = ours(given.close()).map(|figures| independent_figures(&figures));
+    let independent = theirs(independent_tally(&given).close());
     assert_eq!(library, independent, "{given:?}");
     library
 }

@@ -8,7 +8,7 @@ mod measuring;
 mod reading;
 mod writing;
 
-use super::{compare::Answer, Random};
+use super::{answers::Answer, Random};
 use std::{
     collections::BTreeMap,
     fmt::{self, Debug},
