@@ -3,17 +3,18 @@
 //! A trace has one byte a packet: 0 received, 1 lost, 2 discarded, which is no loss. Batches
 //! are all runs of `batch` consecutive packets.
 
-use crate::{boundary, Refusal};
+use crate::{boundary, values::EffectiveIndex, Refusal};
 
 /// How many batches of a trace are over the threshold.
+#[non_exhaustive]
 #[derive(Debug, Clone, Copy, PartialEq, Eq)]
 pub struct EffectiveLoss {
     /// How many batches hold more losses than the threshold.
     pub over: usize,
     /// How many batches there are.
     pub batches: usize,
-    /// The integer part of `over` × 65,535 / `batches`; 65,535 is full loss.
-    pub index: u16,
+    /// The integer part of `over` × 65,535 / `batches`.
+    pub index: EffectiveIndex,
     /// The first batch that is over, by the index of its first packet.
     pub first: Option<usize>,
 }
@@ -27,7 +28,7 @@ pub struct EffectiveLoss {
 /// ```
 /// let loss = nuvaskoe::effective::effective_loss(&[0, 1, 1, 0, 1, 0, 1, 0, 0], 3, 1)?;
 /// assert_eq!((loss.over, loss.batches), (4, 7));
-/// assert_eq!((loss.index, loss.first), (37_448, Some(0)));
+/// assert_eq!((loss.index.0, loss.first), (37_448, Some(0)));
 /// # Ok::<(), nuvaskoe::Refusal>(())
 /// ```
 pub fn effective_loss(trace: &[u8], batch: u32, threshold: u32) -> Result<EffectiveLoss, Refusal> {
@@ -38,10 +39,11 @@ pub fn effective_loss(trace: &[u8], batch: u32, threshold: u32) -> Result<Effect
     debug_assert!(answer.refusal.number == 0 || (answer.over, answer.batches) == (0, 0));
     debug_assert!(answer.refusal.number == 0 || (answer.index, answer.found) == (0, 0));
     debug_assert!(answer.found == 1 || (answer.found, answer.first) == (0, 0));
+    let index = u16::try_from(answer.index).expect("an index has 16 bits");
     answer.refusal.unless_refused(EffectiveLoss {
         over: answer.over,
         batches: answer.batches,
-        index: u16::try_from(answer.index).expect("an index has 16 bits"),
+        index: EffectiveIndex(index),
         first: (answer.found == 1).then_some(answer.first),
     })
 }

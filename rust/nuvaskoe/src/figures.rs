@@ -4,21 +4,22 @@ use crate::{
     block::{Block, Discard, Loss},
     boundary,
     trace::Event,
+    values::{Figure, Rate},
     Refusal,
 };
 
-/// The figures as blocks 17 and 18 hold them: rates 0 to 32,768, or 65,535 for
-/// unavailable; mean and variance 65,534 for over range, 65,535 for unavailable.
+/// The figures as blocks 17 and 18 hold them.
+#[non_exhaustive]
 #[derive(Debug, Clone, Copy, PartialEq, Eq)]
 pub struct Figures {
     /// Rate of events in bursts.
-    pub burst_rate: u16,
+    pub burst_rate: Rate,
     /// Rate of events in gaps.
-    pub gap_rate: u16,
+    pub gap_rate: Rate,
     /// Mean burst duration, in milliseconds.
-    pub mean: u16,
+    pub mean: Figure,
     /// Variance of burst durations.
-    pub variance: u16,
+    pub variance: Figure,
 }
 
 /// The figures of a whole trace: those of a [tally](crate::tally::Tally) that took all its
@@ -27,11 +28,11 @@ pub struct Figures {
 /// Refusals, in this order: 15, 10, 9 (placed at the index of the first byte above 2).
 ///
 /// ```
-/// use nuvaskoe::{figures, trace::Event};
+/// use nuvaskoe::{figures, trace::Event, values::{Figure, Rate}};
 ///
 /// let figures = figures::of_trace(&[1, 0, 1, 0, 0, 1, 0, 0, 0, 1, 1], 2, 1_000, Event::Lost)?;
-/// assert_eq!((figures.burst_rate, figures.gap_rate), (26_214, 5_461));
-/// assert_eq!((figures.mean, figures.variance), (2, 2));
+/// assert_eq!((figures.burst_rate, figures.gap_rate), (Rate(26_214), Rate(5_461)));
+/// assert_eq!((figures.mean, figures.variance), (Figure(2), Figure(2)));
 /// # Ok::<(), nuvaskoe::Refusal>(())
 /// ```
 pub fn of_trace(trace: &[u8], gmin: u32, spacing: u32, event: Event) -> Result<Figures, Refusal> {
@@ -43,6 +44,16 @@ pub fn of_trace(trace: &[u8], gmin: u32, spacing: u32, event: Event) -> Result<F
 }
 
 impl Figures {
+    /// Figures that were measured elsewhere.
+    pub fn new(burst_rate: Rate, gap_rate: Rate, mean: Figure, variance: Figure) -> Figures {
+        Figures {
+            burst_rate,
+            gap_rate,
+            mean,
+            variance,
+        }
+    }
+
     /// The block 17 with these figures, whatever the flag: [`crate::packet::add`] takes 1, 2
     /// and 3.
     #[inline]
@@ -52,10 +63,10 @@ impl Figures {
         Block::Loss(Loss {
             flag: block.flag,
             source: block.source,
-            burst_rate: block.burst_rate,
-            gap_rate: block.gap_rate,
-            mean: block.burst_mean,
-            variance: block.burst_variance,
+            burst_rate: Rate(block.burst_rate),
+            gap_rate: Rate(block.gap_rate),
+            mean: Figure(block.burst_mean),
+            variance: Figure(block.burst_variance),
         })
     }
 
@@ -67,39 +78,39 @@ impl Figures {
         Block::Discard(Discard {
             flag: block.flag,
             source: block.source,
-            burst_rate: block.burst_rate,
-            gap_rate: block.gap_rate,
+            burst_rate: Rate(block.burst_rate),
+            gap_rate: Rate(block.gap_rate),
         })
     }
 }
 
 /// The figures in an answer, which are all unavailable where it is a refusal.
 pub(crate) fn measured(answer: boundary::Figured) -> Result<Figures, Refusal> {
-    let boundary::BurstFigures {
-        burst_rate,
-        gap_rate,
-        burst_mean: mean,
-        burst_variance: variance,
-    } = answer.figures;
-    debug_assert!(
-        answer.refusal.number == 0
-            || [burst_rate, gap_rate, mean, variance] == [boundary::UNAVAILABLE; 4]
-    );
-    answer.refusal.unless_refused(Figures {
-        burst_rate,
-        gap_rate,
-        mean,
-        variance,
-    })
+    let figures = Figures {
+        burst_rate: Rate(answer.figures.burst_rate),
+        gap_rate: Rate(answer.figures.gap_rate),
+        mean: Figure(answer.figures.burst_mean),
+        variance: Figure(answer.figures.burst_variance),
+    };
+    debug_assert!(answer.refusal.number == 0 || figures == NONE);
+    answer.refusal.unless_refused(figures)
 }
+
+/// Those of a refused answer.
+const NONE: Figures = Figures {
+    burst_rate: Rate::UNAVAILABLE,
+    gap_rate: Rate::UNAVAILABLE,
+    mean: Figure::UNAVAILABLE,
+    variance: Figure::UNAVAILABLE,
+};
 
 impl From<&Figures> for boundary::BurstFigures {
     fn from(figures: &Figures) -> Self {
         Self {
-            burst_rate: figures.burst_rate,
-            gap_rate: figures.gap_rate,
-            burst_mean: figures.mean,
-            burst_variance: figures.variance,
+            burst_rate: figures.burst_rate.0,
+            gap_rate: figures.gap_rate.0,
+            burst_mean: figures.mean.0,
+            burst_variance: figures.variance.0,
         }
     }
 }

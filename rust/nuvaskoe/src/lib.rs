@@ -31,6 +31,7 @@ mod refusals;
 pub mod resend;
 pub mod tally;
 pub mod trace;
+pub mod values;
 
 pub use refusals::RefusalKind;
 

@@ -12,6 +12,7 @@ use crate::{
 };
 
 /// What a packet says of itself.
+#[non_exhaustive]
 #[derive(Debug, Clone, Copy, PartialEq, Eq)]
 pub struct Summary {
     /// The sender.
@@ -99,11 +100,12 @@ pub fn new(sender: u32, out: &mut [u8]) -> Result<usize, Refusal> {
 /// range; 17, the length field would pass 65,535; 8, no room for the block.
 ///
 /// ```
-/// use nuvaskoe::block::{Block, EffectiveLoss, Verdict};
+/// use nuvaskoe::{block::{Block, EffectiveLoss, Verdict}, values::EffectiveIndex};
 ///
 /// let mut buffer = [0; 64];
 /// nuvaskoe::packet::new(1, &mut buffer)?;
-/// let block = Block::EffectiveLoss(EffectiveLoss { source: 2, index: 37_448 });
+/// let index = EffectiveIndex(37_448);
+/// let block = Block::EffectiveLoss(EffectiveLoss { source: 2, index });
 /// let size = nuvaskoe::packet::add(&mut buffer, &block)?;
 /// assert_eq!(size, 20);
 /// let reading = nuvaskoe::packet::block(&buffer[..size], 0)?;

@@ -7,7 +7,8 @@ use crate::{
     Refusal,
 };
 
-/// What is summed over the packets so far.
+/// What is summed over the packets so far. One made by hand begins as `Sums::default()`.
+#[non_exhaustive]
 #[derive(Debug, Clone, Copy, Default, PartialEq, Eq)]
 pub struct Sums {
     /// All packets.
@@ -38,12 +39,12 @@ pub struct Stretch {
     pub since: u64,
 }
 
-/// A tally. Any may be made by hand; those that are not sound, by the list at
-/// `tally::Tally::take` in docs/PROMISES.md, are refused with 15. One that was opened and
-/// took packets is sound at every point.
+/// A tally. Any may be [made by hand](Tally::from_parts); those that are not sound, by the
+/// list at `tally::Tally::take` in docs/PROMISES.md, are refused with 15. One that was opened
+/// and took packets is sound at every point.
 ///
 /// ```
-/// use nuvaskoe::{tally::Tally, trace::Event};
+/// use nuvaskoe::{tally::Tally, trace::Event, values::Rate};
 ///
 /// let mut tally = Tally::open(16, 1_000, Event::Lost)?;
 /// for packet in [1, 1, 1] {
@@ -51,9 +52,10 @@ pub struct Stretch {
 ///     answer?;
 ///     tally = next;
 /// }
-/// assert_eq!(tally.close()?.burst_rate, 32_768);
+/// assert_eq!(tally.close()?.burst_rate, Rate::ALL);
 /// # Ok::<(), nuvaskoe::Refusal>(())
 /// ```
+#[non_exhaustive]
 #[derive(Debug, Clone, Copy, PartialEq, Eq)]
 pub struct Tally {
     /// Gmin, 1 to 255 packets.
@@ -79,9 +81,26 @@ impl Tally {
         match answer.refusal.unless_refused(()) {
             Ok(()) => Ok(Tally::new(&answer.tally)),
             Err(refusal) => {
-                debug_assert!(answer.tally == NONE);
+                debug_assert_eq!(answer.tally, NONE);
                 Err(refusal)
             }
+        }
+    }
+
+    /// The tally of these numbers, sound or not.
+    pub fn from_parts(
+        gmin: u32,
+        spacing: u32,
+        event: Event,
+        sums: Sums,
+        stretch: Stretch,
+    ) -> Tally {
+        Tally {
+            gmin,
+            spacing,
+            event,
+            sums,
+            stretch,
         }
     }
 

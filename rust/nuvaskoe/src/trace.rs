@@ -3,6 +3,7 @@
 use crate::boundary;
 
 /// The packets that are counted; all others count as received.
+#[non_exhaustive]
 #[derive(Debug, Clone, Copy, PartialEq, Eq)]
 pub enum Event {
     /// The lost, for a block 17.

@@ -145,5 +145,5 @@ fn begin_and_end() {
     else {
         panic!("{reading:?}");
     };
-    assert_eq!(stream.packets, 3);
+    assert_eq!(stream.packets(), 3);
 }

@@ -2,7 +2,7 @@
 
 mod support;
 
-use nuvaskoe::effective::EffectiveLoss;
+use independent::effective::EffectiveLoss;
 use support::{
     batches::{
         all_settings, all_traces, bursty_losses, digits, loss_both, random_losses, random_settings,
@@ -15,7 +15,7 @@ use support::{
 const TRACES: usize = 500;
 
 /// An accepted answer, by its four parts.
-fn loss(over: usize, batches: usize, index: u16, first: Option<usize>) -> EffectiveLoss {
+fn loss(over: u64, batches: u64, index: u16, first: Option<usize>) -> EffectiveLoss {
     EffectiveLoss {
         over,
         batches,
@@ -57,7 +57,7 @@ fn compare_all(length: u32, kinds: usize) {
     for trace in all_traces(length, kinds) {
         for (batch, threshold) in all_settings(length) {
             let answer = loss_both(&trace, batch, threshold).expect("an accepted trace");
-            assert_eq!(answer.batches, (length - batch + 1) as usize);
+            assert_eq!(answer.batches, u64::from(length - batch + 1));
             assert_eq!(answer.first.is_some(), answer.over > 0);
             assert!(threshold < batch || answer.over == 0);
         }

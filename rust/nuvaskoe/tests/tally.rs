@@ -63,13 +63,8 @@ fn opened() {
             for event in EVENTS {
                 let answer = open_both(gmin, spacing, library_event(event));
                 let good = (1..=255).contains(&gmin) && (1..=40_000).contains(&spacing);
-                let fresh = Tally {
-                    gmin,
-                    spacing,
-                    event: library_event(event),
-                    sums: Sums::default(),
-                    stretch: Stretch::default(),
-                };
+                let (sums, stretch) = (Sums::default(), Stretch::default());
+                let fresh = Tally::from_parts(gmin, spacing, library_event(event), sums, stretch);
                 let expected = if good { Ok(fresh) } else { Err((15, 0)) };
                 assert_eq!(answer, expected);
                 // Handed in as it is, the same tally is refused for the same reason.

@@ -103,11 +103,8 @@ fn settings_out_of_range() {
         let reached = random_reached(&mut random);
         for gmin in [0, 1, 255, 256, 1 << 16, u32::MAX] {
             for spacing in [0, 1, 40_000, 40_001, 1 << 16, u32::MAX] {
-                let given = Tally {
-                    gmin,
-                    spacing,
-                    ..reached
-                };
+                let mut given = reached;
+                (given.gmin, given.spacing) = (gmin, spacing);
                 seen.check(given, random.below(4) as u8);
             }
         }

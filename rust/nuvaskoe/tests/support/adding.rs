@@ -11,7 +11,10 @@ use independent::{
     block::{Block, Discard, EffectiveLoss, Loss, Measurement, Reading, Reason, TransportStream},
     compose,
 };
-use nuvaskoe::block as library;
+use nuvaskoe::{
+    block as library,
+    values::{EffectiveIndex, Figure, Rate},
+};
 
 /// Writes a new packet with both into equal buffers of `length` bytes, and gives the
 /// answer and the buffer on which they agree.
@@ -259,20 +262,20 @@ pub fn library_block(block: &Block) -> library::Block {
         Block::Loss(block) => library::Block::Loss(library::Loss {
             flag: block.flag,
             source: block.source,
-            burst_rate: block.burst_rate,
-            gap_rate: block.gap_rate,
-            mean: block.mean,
-            variance: block.variance,
+            burst_rate: Rate(block.burst_rate),
+            gap_rate: Rate(block.gap_rate),
+            mean: Figure(block.mean),
+            variance: Figure(block.variance),
         }),
         Block::Discard(block) => library::Block::Discard(library::Discard {
             flag: block.flag,
             source: block.source,
-            burst_rate: block.burst_rate,
-            gap_rate: block.gap_rate,
+            burst_rate: Rate(block.burst_rate),
+            gap_rate: Rate(block.gap_rate),
         }),
         Block::EffectiveLoss(block) => library::Block::EffectiveLoss(library::EffectiveLoss {
             source: block.source,
-            index: block.index,
+            index: EffectiveIndex(block.index),
         }),
         Block::TransportStream(block) => library_stream(&block),
     }
@@ -283,8 +286,6 @@ fn library_stream(block: &TransportStream) -> library::Block {
         source: block.source,
         begin: block.begin,
         end: block.end,
-        // Never looked at, so anything will do.
-        packets: block.begin ^ block.end ^ 0x5A5A,
         streams: block.streams,
         counts: block.counts,
     })

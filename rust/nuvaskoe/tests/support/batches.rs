@@ -5,8 +5,10 @@ use super::{
     answers::{ours, theirs, Answer},
     pattern, Random,
 };
-use independent::{effective, resend};
-use nuvaskoe::effective::EffectiveLoss;
+use independent::{
+    effective::{self, EffectiveLoss},
+    resend,
+};
 
 /// The most packets of a trace.
 pub const LONGEST: usize = 65_536;
@@ -31,18 +33,19 @@ pub const SETTINGS: [u32; 14] = [
 
 /// The effective loss on which both agree, the independent one in its two forms.
 pub fn loss_both(trace: &[u8], batch: u32, threshold: u32) -> Answer<EffectiveLoss> {
-    let library = ours(nuvaskoe::effective::effective_loss(trace, batch, threshold));
+    let library = nuvaskoe::effective::effective_loss(trace, batch, threshold);
+    let library = ours(library).map(|loss| EffectiveLoss {
+        over: loss.over as u64,
+        batches: loss.batches as u64,
+        index: loss.index.0,
+        first: loss.first,
+    });
     let (b, t) = (u64::from(batch), u64::from(threshold));
     for independent in [
         effective::effective_loss(trace, b, t),
         effective::running_effective_loss(trace, b, t),
     ] {
-        let independent = theirs(independent).map(|loss| EffectiveLoss {
-            over: loss.over as usize,
-            batches: loss.batches as usize,
-            index: loss.index,
-            first: loss.first,
-        });
+        let independent = theirs(independent);
         assert!(
             library == independent,
             "{library:?} and {independent:?}: {}",

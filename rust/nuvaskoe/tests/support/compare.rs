@@ -148,7 +148,9 @@ fn translated(reading: library::Reading) -> (u8, Reading) {
             library::Reason::BadFlag => Reason::D2,
             library::Reason::BadRate => Reason::D3,
             library::Reason::Unmeasured => Reason::D4,
+            other => unreachable!("{other:?}"),
         }),
+        other => unreachable!("{other:?}"),
     };
     assert_eq!(reading.verdict.number(), translation.verdict());
     (reading.block_type, translation)
@@ -168,22 +170,23 @@ fn translated_block(block: library::Block) -> Block {
         library::Block::Loss(block) => Block::Loss(Loss {
             flag: block.flag,
             source: block.source,
-            burst_rate: block.burst_rate,
-            gap_rate: block.gap_rate,
-            mean: block.mean,
-            variance: block.variance,
+            burst_rate: block.burst_rate.0,
+            gap_rate: block.gap_rate.0,
+            mean: block.mean.0,
+            variance: block.variance.0,
         }),
         library::Block::Discard(block) => Block::Discard(Discard {
             flag: block.flag,
             source: block.source,
-            burst_rate: block.burst_rate,
-            gap_rate: block.gap_rate,
+            burst_rate: block.burst_rate.0,
+            gap_rate: block.gap_rate.0,
         }),
         library::Block::EffectiveLoss(block) => Block::EffectiveLoss(EffectiveLoss {
             source: block.source,
-            index: block.index,
+            index: block.index.0,
         }),
         library::Block::TransportStream(block) => translated_stream(block),
+        other => unreachable!("{other:?}"),
     }
 }
 
@@ -195,7 +198,7 @@ fn translated_stream(block: library::TransportStream) -> Block {
         streams: block.streams,
         counts: block.counts,
     };
-    assert_eq!(block.packets, stream.packets());
+    assert_eq!(block.packets(), stream.packets());
     Block::TransportStream(stream)
 }
 

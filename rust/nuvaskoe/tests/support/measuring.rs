@@ -11,7 +11,10 @@ use independent::{
     burst::{self, Figures},
     trace::Event,
 };
-use nuvaskoe::{figures as library, trace};
+use nuvaskoe::{
+    figures as library, trace,
+    values::{Figure, Rate},
+};
 
 pub const EVENTS: [Event; 2] = [Event::Lost, Event::Discarded];
 /// The longest trace.
@@ -64,26 +67,27 @@ pub fn independent_event(event: trace::Event) -> Event {
     match event {
         trace::Event::Lost => Event::Lost,
         trace::Event::Discarded => Event::Discarded,
+        other => unreachable!("{other:?}"),
     }
 }
 
 /// The independent figures in the library's words.
 pub fn library_figures(figures: &Figures) -> library::Figures {
-    library::Figures {
-        burst_rate: figures.burst_rate,
-        gap_rate: figures.gap_rate,
-        mean: figures.mean,
-        variance: figures.variance,
-    }
+    library::Figures::new(
+        Rate(figures.burst_rate),
+        Rate(figures.gap_rate),
+        Figure(figures.mean),
+        Figure(figures.variance),
+    )
 }
 
 /// The library's figures in the independent words.
 pub fn independent_figures(figures: &library::Figures) -> Figures {
     Figures {
-        burst_rate: figures.burst_rate,
-        gap_rate: figures.gap_rate,
-        mean: figures.mean,
-        variance: figures.variance,
+        burst_rate: figures.burst_rate.0,
+        gap_rate: figures.gap_rate.0,
+        mean: figures.mean.0,
+        variance: figures.variance.0,
     }
 }
 

@@ -31,25 +31,16 @@ pub fn tally(gmin: u32, spacing: u32, event: Event, fields: [u64; FIELDS]) -> Ta
     let [packets, events, burst_packets, burst_events, bursts, durations, squares, stretch @ ..] =
         fields;
     let [open_events, open_packets, since] = stretch;
-    Tally {
-        gmin,
-        spacing,
-        event,
-        sums: Sums {
-            packets,
-            events,
-            burst_packets,
-            burst_events,
-            bursts,
-            durations,
-            squares,
-        },
-        stretch: Stretch {
-            events: open_events,
-            packets: open_packets,
-            since,
-        },
-    }
+    let mut sums = Sums::default();
+    (sums.packets, sums.events) = (packets, events);
+    (sums.burst_packets, sums.burst_events) = (burst_packets, burst_events);
+    (sums.bursts, sums.durations, sums.squares) = (bursts, durations, squares);
+    let stretch = Stretch {
+        events: open_events,
+        packets: open_packets,
+        since,
+    };
+    Tally::from_parts(gmin, spacing, event, sums, stretch)
 }
 
 pub fn fields(tally: &Tally) -> [u64; FIELDS] {
@@ -238,22 +229,26 @@ pub fn random_hostile(random: &mut Random) -> Tally {
             [open_packets, open_events, 1, duration, square]
         }
     };
-    Tally {
-        gmin,
-        spacing,
-        event,
-        sums: hostile_sums(random, packets, open),
-        stretch: Stretch {
-            events: open_events,
-            packets: open_packets,
-            since,
-        },
-    }
+    let sums = hostile_sums(random, packets, open);
+    let [packets, events, burst_packets, burst_events, bursts, durations, squares] = sums;
+    let numbers = [
+        packets,
+        events,
+        burst_packets,
+        burst_events,
+        bursts,
+        durations,
+        squares,
+        open_events,
+        open_packets,
+        since,
+    ];
+    tally(gmin, spacing, event, numbers)
 }
 
 /// Sums of so many packets, around what is sound beside the open burst's packets, events,
 /// count, duration and its square.
-fn hostile_sums(random: &mut Random, packets: u64, open: [u64; 5]) -> Sums {
+fn hostile_sums(random: &mut Random, packets: u64, open: [u64; 5]) -> [u64; 7] {
     let burst_packets = around(random, packets.saturating_sub(open[0]));
     let all_burst_packets = burst_packets.saturating_add(open[0]);
     let burst_events = around(random, all_burst_packets.saturating_sub(open[1]));
@@ -272,7 +267,7 @@ fn hostile_sums(random: &mut Random, packets: u64, open: [u64; 5]) -> Sums {
     let most = s.wrapping_mul(s);
     let bound = random.one_of(&[least, least, most]);
     let squares = around(random, bound.wrapping_sub(open[4]));
-    Sums {
+    [
         packets,
         events,
         burst_packets,
@@ -280,5 +275,5 @@ fn hostile_sums(random: &mut Random, packets: u64, open: [u64; 5]) -> Sums {
         bursts,
         durations,
         squares,
-    }
+    ]
 }

@@ -1,0 +1,198 @@
+//! Blocks and the numbers that the boundary has for them.
+
+use super::{
+    Block, Discard, EffectiveLoss, Loss, Measurement, Reading, Reason, TransportStream, Verdict,
+};
+use crate::{
+    boundary,
+    values::{EffectiveIndex, Figure, Rate},
+};
+
+impl Reading {
+    /// The reading in an answer that is no refusal.
+    pub(crate) fn new(answer: &boundary::Block) -> Reading {
+        let verdict = match answer.verdict {
+            boundary::VERDICT_TYPED => Verdict::Typed(Block::new(answer.kind, &answer.fields)),
+            without_fields => {
+                unused(&answer.fields);
+                match without_fields {
+                    boundary::VERDICT_BAD_SIZE => Verdict::Dropped(Reason::BadSize),
+                    boundary::VERDICT_BAD_FLAG => Verdict::Dropped(Reason::BadFlag),
+                    boundary::VERDICT_BAD_RATE => Verdict::Dropped(Reason::BadRate),
+                    boundary::VERDICT_UNMEASURED => Verdict::Dropped(Reason::Unmeasured),
+                    boundary::VERDICT_UNKNOWN => Verdict::Unknown,
+                    other => unreachable!("verdict {other}"),
+                }
+            }
+        };
+        Reading {
+            block_type: narrow(answer.kind),
+            verdict,
+        }
+    }
+}
+
+type Fields = [u32; boundary::FIELDS];
+
+impl Block {
+    fn new(block_type: u32, fields: &Fields) -> Block {
+        match block_type {
+            14 => Block::Measurement(Measurement::new(fields)),
+            17 => Block::Loss(Loss::new(fields)),
+            18 => Block::Discard(Discard::new(fields)),
+            240 => Block::EffectiveLoss(EffectiveLoss::new(fields)),
+            241 => Block::TransportStream(TransportStream::new(fields)),
+            other => unreachable!("typed block of type {other}"),
+        }
+    }
+}
+
+impl Measurement {
+    fn new(fields: &Fields) -> Measurement {
+        let [source, first, extended_first, extended_last, interval, seconds, fraction, rest @ ..] =
+            fields;
+        unused(rest);
+        Measurement {
+            source: *source,
+            first: narrow(*first),
+            extended_first: *extended_first,
+            extended_last: *extended_last,
+            interval: *interval,
+            seconds: *seconds,
+            fraction: *fraction,
+        }
+    }
+}
+
+impl Loss {
+    fn new(fields: &Fields) -> Loss {
+        let [flag, source, burst_rate, gap_rate, mean, variance, rest @ ..] = fields;
+        unused(rest);
+        Loss {
+            flag: narrow(*flag),
+            source: *source,
+            burst_rate: Rate(narrow(*burst_rate)),
+            gap_rate: Rate(narrow(*gap_rate)),
+            mean: Figure(narrow(*mean)),
+            variance: Figure(narrow(*variance)),
+        }
+    }
+}
+
+impl Discard {
+    fn new(fields: &Fields) -> Discard {
+        let [flag, source, burst_rate, gap_rate, rest @ ..] = fields;
+        unused(rest);
+        Discard {
+            flag: narrow(*flag),
+            source: *source,
+            burst_rate: Rate(narrow(*burst_rate)),
+            gap_rate: Rate(narrow(*gap_rate)),
+        }
+    }
+}
+
+impl EffectiveLoss {
+    fn new(fields: &Fields) -> EffectiveLoss {
+        let [source, index, rest @ ..] = fields;
+        unused(rest);
+        EffectiveLoss {
+            source: *source,
+            index: EffectiveIndex(narrow(*index)),
+        }
+    }
+}
+
+impl TransportStream {
+    fn new(fields: &Fields) -> TransportStream {
+        let [source, begin, end, packets, streams, counts @ ..] = fields;
+        let stream = TransportStream {
+            source: *source,
+            begin: narrow(*begin),
+            end: narrow(*end),
+            streams: *streams,
+            counts: *counts,
+        };
+        debug_assert_eq!(u32::from(stream.packets()), *packets);
+        stream
+    }
+}
+
+impl From<&Measurement> for boundary::Measurement {
+    fn from(block: &Measurement) -> Self {
+        Self {
+            source: block.source,
+            first: block.first,
+            extended_first: block.extended_first,
+            extended_last: block.extended_last,
+            interval: block.interval,
+            seconds: block.seconds,
+            fraction: block.fraction,
+        }
+    }
+}
+
+impl From<&Loss> for boundary::LossSummary {
+    fn from(block: &Loss) -> Self {
+        Self {
+            flag: block.flag,
+            source: block.source,
+            burst_rate: block.burst_rate.0,
+            gap_rate: block.gap_rate.0,
+            burst_mean: block.mean.0,
+            burst_variance: block.variance.0,
+        }
+    }
+}
+
+impl From<&Discard> for boundary::DiscardSummary {
+    fn from(block: &Discard) -> Self {
+        Self {
+            flag: block.flag,
+            source: block.source,
+            burst_rate: block.burst_rate.0,
+            gap_rate: block.gap_rate.0,
+        }
+    }
+}
+
+impl From<&EffectiveLoss> for boundary::EffectiveSummary {
+    fn from(block: &EffectiveLoss) -> Self {
+        Self {
+            source: block.source,
+            index: block.index.0,
+        }
+    }
+}
+
+impl From<&TransportStream> for boundary::StreamCounts {
+    fn from(block: &TransportStream) -> Self {
+        let [sync_losses, sync_byte_errors, continuity_errors, transport_errors, pcr @ .., pts_errors] =
+            block.counts;
+        let [pcr_errors, pcr_repetition_errors, pcr_discontinuity_errors] = pcr;
+        Self {
+            source: block.source,
+            begin: block.begin,
+            end: block.end,
+            streams: block.streams,
+            sync_losses,
+            sync_byte_errors,
+            continuity_errors,
+            transport_errors,
+            pcr_errors,
+            pcr_repetition_errors,
+            pcr_discontinuity_errors,
+            pts_errors,
+        }
+    }
+}
+
+/// The boundary holds every number in 32 bits, within the width it has here.
+fn narrow<T: TryFrom<u32>>(number: u32) -> T {
+    T::try_from(number).unwrap_or_else(|_| unreachable!("{number} is too wide"))
+}
+
+/// The boundary leaves 0 in the fields that an answer does not have.
+fn unused(fields: &[u32]) {
+    debug_assert!(fields.iter().all(|field| *field == 0), "{fields:?}");
+}
