@@ -6,6 +6,10 @@
 // The debug assertions here are what the header says of refused answers and no answer in
 // Rust shows.
 
+mod blocks;
+
+pub use blocks::{blocks, Blocks, PacketBlock};
+
 use crate::{
     block::{Block, Reading},
     boundary, Refusal,
@@ -33,7 +37,7 @@ pub fn read(packet: &[u8]) -> Result<Summary, Refusal> {
     })
 }
 
-/// Block number `index`, from 0.
+/// Block number `index`, from 0. [`blocks`] gives all of them in less time.
 ///
 /// Further refusal: 7, no block with that index.
 #[inline]

@@ -139,7 +139,7 @@ fn indices(count: usize) -> impl Iterator<Item = usize> {
 }
 
 /// The library's reading in the independent words.
-fn translated(reading: library::Reading) -> (u8, Reading) {
+pub fn translated(reading: library::Reading) -> (u8, Reading) {
     let translation = match reading.verdict {
         library::Verdict::Typed(block) => Reading::Typed(translated_block(block)),
         library::Verdict::Unknown => Reading::Unknown,
