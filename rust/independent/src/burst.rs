@@ -195,7 +195,7 @@ fn capped(number: u64) -> u16 {
 }
 
 /// Where the events stand.
-fn positions(trace: &[u8], event: Event) -> Vec<u64> {
+pub(crate) fn positions(trace: &[u8], event: Event) -> Vec<u64> {
     (0..trace.len())
         .filter(|position| trace[*position] == event.byte())
         .map(|position| position as u64)
@@ -203,7 +203,7 @@ fn positions(trace: &[u8], event: Event) -> Vec<u64> {
 }
 
 /// "Two successive events belong together when fewer than Gmin packets stand between them."
-fn groups(events: &[u64], gmin: u64) -> Vec<&[u64]> {
+pub(crate) fn groups(events: &[u64], gmin: u64) -> Vec<&[u64]> {
     events
         .chunk_by(|earlier, later| later - earlier - 1 < gmin)
         .collect()

@@ -1,4 +1,5 @@
-//! A plain second implementation of document 01, written from that document alone.
+//! A plain second implementation of document 01, written from that document alone, but for
+//! `late_tally`, a model of what the document leaves free.
 //! It shares no code with the library it checks, and prefers the document's own
 //! words to speed: where the two disagree, one of them misreads the document.
 #![forbid(unsafe_code)]
@@ -8,6 +9,7 @@ pub mod burst;
 pub mod card;
 pub mod compose;
 pub mod effective;
+pub mod late_tally;
 pub mod packet;
 pub mod refusal;
 pub mod resend;

@@ -59,14 +59,8 @@ impl Tally {
     /// Takes one packet; "a tally comes back as given" where that is refused.
     #[inline]
     pub fn take(self, byte: u8) -> (Tally, Result<(), Refusal>) {
-        if !self.sound() {
-            return (self, Err(Refusal::SETTING));
-        }
-        if self.seen == trace::MOST_PACKETS as u64 {
-            return (self, Err(Refusal::TRACE_LENGTH));
-        }
-        if byte > 2 {
-            return (self, Err(Refusal::trace_byte(0)));
+        if let Err(refusal) = self.check(byte) {
+            return (self, Err(refusal));
         }
         let mut next = self;
         next.seen += 1;
@@ -76,6 +70,21 @@ impl Tally {
             next.take_other();
         }
         (next, Ok(()))
+    }
+
+    /// Whether it takes this packet.
+    #[inline]
+    pub(crate) fn check(&self, byte: u8) -> Result<(), Refusal> {
+        if !self.sound() {
+            return Err(Refusal::SETTING);
+        }
+        if self.seen == trace::MOST_PACKETS as u64 {
+            return Err(Refusal::TRACE_LENGTH);
+        }
+        if byte > 2 {
+            return Err(Refusal::trace_byte(0));
+        }
+        Ok(())
     }
 
     /// The figures of the packets taken. Refusal: 15, where the tally is not sound.
@@ -150,13 +159,18 @@ impl Tally {
         if self.open_gap < self.gmin {
             return;
         }
+        self.close_stretch();
+        (self.open_events, self.open_packets, self.open_gap) = (0, 0, 0);
+    }
+
+    /// Counts the open stretch into the sums.
+    pub(crate) fn close_stretch(&mut self) {
         let closed = self.counted_in();
         self.burst_packets = closed.burst_packets;
         self.burst_events = closed.burst_events;
         self.bursts = closed.bursts;
         self.duration_sum = closed.duration_sum;
         self.duration_squares = closed.duration_squares;
-        (self.open_events, self.open_packets, self.open_gap) = (0, 0, 0);
     }
 
     /// The sums as if the open stretch were closed now.

@@ -7,10 +7,9 @@
 //!
 //! It runs CASES cases, a million unless given, from number FIRST, 0 unless given; the calls
 //! take turns. `NUVASKOE_CASES` and `NUVASKOE_SEED` stand for the first two. A case compares
-//! the whole answer and every lent byte. The run ends with how many cases of each call were
-//! answered and how many refused, by number; at the first difference it ends with status 1,
-//! the seed, the case and its input. With `--release` the library's Rust calls no longer
-//! check what the rest of a refused answer holds, and all else is compared.
+//! the whole answer of the boundary, that of the safe call and every lent byte. The run ends
+//! with how many cases of each call were answered and how many refused, by number; at the
+//! first difference it ends with status 1, the seed, the case and its input.
 
 #[path = "../tests/support/mod.rs"]
 mod support;

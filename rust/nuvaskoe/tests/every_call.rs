@@ -10,21 +10,59 @@ use support::{
 
 const HEADER: &str = include_str!("../../../include/nuvaskoe.h");
 
-/// The functions that the header declares: a line of its own starts each, with its answer's
-/// type, and comments and structs start otherwise.
-fn declared() -> Vec<&'static str> {
-    let starts = HEADER.lines().filter(|line| line.starts_with("nuvaskoe_"));
-    let names = starts.map(|line| line.split_once('(').expect("a function").0);
-    let names = names.map(|front| front.rsplit_once(' ').expect("its type and name").1);
-    names
-        .map(|name| name.strip_prefix("nuvaskoe_").expect("a name of ours"))
-        .collect()
+/// The functions that a header declares: each starts a line with its answer's type, and then
+/// has a name of ours before its first parenthesis.
+fn declared(header: &str) -> Vec<&str> {
+    header.lines().filter_map(declared_by).collect()
+}
+
+/// The function that a line declares. Comments, fields and directives start otherwise; what is
+/// defined in the header is no call of the library.
+fn declared_by(line: &str) -> Option<&str> {
+    let elsewhere = ["typedef ", "static ", "struct ", "enum ", "extern \"C\""];
+    if !line.starts_with(|first: char| first.is_ascii_alphabetic())
+        || elsewhere.iter().any(|start| line.starts_with(start))
+    {
+        return None;
+    }
+    let (front, _) = line.split_once('(')?;
+    let name = front.trim_end().rsplit([' ', '*']).next()?;
+    name.strip_prefix("nuvaskoe_")
+}
+
+#[test]
+fn lines_of_a_header() {
+    let lines = [
+        ("uint32_t nuvaskoe_version(void);", Some("version")),
+        (
+            "nuvaskoe_written nuvaskoe_card_write(nuvaskoe_settings settings,",
+            Some("card_write"),
+        ),
+        (
+            "const char *nuvaskoe_words (uint32_t number);",
+            Some("words"),
+        ),
+        ("extern uint32_t nuvaskoe_version(void);", Some("version")),
+        ("static inline uint32_t nuvaskoe_major(void) {", None),
+        ("typedef uint32_t (*nuvaskoe_call)(void);", None),
+        ("typedef struct nuvaskoe_part {", None),
+        ("} nuvaskoe_part;", None),
+        ("    uint32_t nuvaskoe_indented(void);", None),
+        ("nuvaskoe_part is a struct", None),
+        (" * nuvaskoe_packet_body(packet) says where", None),
+        ("#define NUVASKOE_FIELDS 13", None),
+        ("extern \"C\" {", None),
+        ("", None),
+    ];
+    for (line, name) in lines {
+        assert_eq!(declared_by(line), name, "{line}");
+    }
 }
 
 #[test]
 fn all_functions_of_the_header() {
     let compared: Vec<_> = calls().iter().map(|call| call.name).collect();
-    assert_eq!(compared, declared());
+    assert_eq!(compared, declared(HEADER));
 }
 
 #[test]

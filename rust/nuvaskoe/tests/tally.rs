@@ -1,18 +1,23 @@
 //! Tallies fed packet by packet, with both implementations: at every point they close with
-//! the figures of the packets so far.
+//! the figures of the packets so far. No event but two is taken.
 
 mod support;
 
-use independent::{burst::Figures, tally::Tally as Independent, trace::Event};
+use independent::{burst::Figures, late_tally, tally::Tally as Independent, trace::Event};
 use nuvaskoe::tally::{Stretch, Sums, Tally};
 use support::{
     answers::Answer,
+    boundary,
+    drawn_tallies::{random_hostile, random_reached},
     from_env,
     measuring::{
-        figures_both, library_event, random_gmin, random_spacing, random_trace, EVENTS, LONGEST,
-        UNAVAILABLE,
+        figures_both, figures_numbered, library_event, random_gmin, random_spacing, random_trace,
+        EVENTS, LONGEST, NO_EVENTS, UNAVAILABLE,
     },
-    tallies::{close_both, independent_tally, open_both, take_both},
+    tallies::{
+        at_boundary, close_both, close_numbered, independent_tally, open_both, open_numbered,
+        take_both, take_numbered,
+    },
     Random,
 };
 
@@ -76,6 +81,13 @@ fn opened() {
     }
 }
 
+/// The tally holds the sums over all groups but the last, and the last.
+fn check_held(tally: &Tally, trace: &[u8]) {
+    let held = independent_tally(tally);
+    let expected = late_tally::of_trace(trace, held.gmin, held.spacing, held.event);
+    assert_eq!(held, expected, "{} packets", trace.len());
+}
+
 /// All traces that go on from `trace`, up to nine packets.
 fn check_from(pair: Pair, trace: &mut Vec<u8>, gmin: u32, spacing: u32, event: Event) {
     let expected = match trace.is_empty() {
@@ -83,6 +95,7 @@ fn check_from(pair: Pair, trace: &mut Vec<u8>, gmin: u32, spacing: u32, event: E
         false => figures_both(trace, gmin, spacing, event),
     };
     assert_eq!(pair.close(), expected, "{trace:?}");
+    check_held(&pair.ours, trace);
     if trace.len() == 9 {
         return;
     }
@@ -118,6 +131,7 @@ fn check_fed(trace: &[u8], gmin: u32, spacing: u32, event: Event, every: usize) 
             assert_eq!(closed, prefix, "{length}");
         }
     }
+    check_held(&pair.ours, trace);
     pair.ours
 }
 
@@ -184,6 +198,35 @@ fn bad_bytes() {
                 assert_eq!(take_both(pair.ours, byte), (pair.ours, Err((9, 0))));
             }
             pair = pair.take(*packet);
+        }
+    }
+}
+
+/// A number that is no event is refused with 15, whatever else is good or bad: no tally is
+/// handed out, one that is handed in comes back as given, and no figure is available.
+#[test]
+fn every_number_that_is_no_event() {
+    let mut random = Random::new("every_number_that_is_no_event");
+    let mut numbers = NO_EVENTS.to_vec();
+    numbers.extend((0..300).map(|_| random.draw() as u32 | 4));
+    numbers.extend((2..32).map(|bit| 1 << bit));
+    for event in numbers {
+        for (gmin, spacing) in [(16, 1_000), (0, 1_000), (255, 40_000), (1, 40_001)] {
+            assert_eq!(open_numbered(gmin, spacing, event), Err((15, 0)));
+            for trace in [&[][..], &[0, 1, 2], &[1, 1, 3]] {
+                let answer = figures_numbered(trace, gmin, spacing, event);
+                assert_eq!(answer, Err((15, 0)));
+            }
+        }
+        for tally in [random_reached(&mut random), random_hostile(&mut random)] {
+            let given = boundary::Tally {
+                event,
+                ..at_boundary(&tally)
+            };
+            assert_eq!(close_numbered(given), Err((15, 0)));
+            for packet in [0, 1, 2, 3, 255] {
+                assert_eq!(take_numbered(given, packet), (given, Err((15, 0))));
+            }
         }
     }
 }

@@ -5,11 +5,9 @@ mod support;
 
 use nuvaskoe::{tally::Tally, trace::Event};
 use support::{
+    drawn_tallies::{elsewhere, random_hostile, random_reached},
     from_env,
-    tallies::{
-        close_both, elsewhere, fields, independent_tally, random_hostile, random_reached,
-        take_both, tally, FIELDS, LIMITS, PACKETS,
-    },
+    tallies::{close_both, fields, independent_tally, take_both, tally, FIELDS, LIMITS, PACKETS},
     Random,
 };
 

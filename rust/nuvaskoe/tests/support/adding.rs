@@ -2,10 +2,10 @@
 //! and blocks to add.
 
 use super::{
-    answers::{ours, theirs, Answer},
+    answers::{ours, theirs, written, Answer},
     compare::{alone_both, block_both, read_both, shown},
     packets::{RATES, SOURCES},
-    pattern, Random,
+    pattern, raw, Random,
 };
 use independent::{
     block::{Block, Discard, EffectiveLoss, Loss, Measurement, Reading, Reason, TransportStream},
@@ -20,10 +20,14 @@ use nuvaskoe::{
 /// answer and the buffer on which they agree.
 pub fn new_both(sender: u32, length: usize) -> (Answer<usize>, Vec<u8>) {
     let (mut library_out, mut independent_out) = (pattern(length), pattern(length));
+    let mut whole_out = pattern(length);
+    let whole = raw::packet_new(sender, &mut whole_out);
     let library = ours(nuvaskoe::packet::new(sender, &mut library_out));
     let independent = theirs(compose::new_packet(sender, &mut independent_out));
     assert_eq!(library, independent, "{length} bytes");
     assert_eq!(library_out, independent_out, "{length} bytes");
+    assert_eq!(whole, written(&independent), "{length} bytes");
+    assert_eq!(whole_out, independent_out, "{length} bytes");
     let written = library.unwrap_or(0);
     assert_eq!(library_out[written..], pattern(length)[written..]);
     (library, library_out)
@@ -33,10 +37,18 @@ pub fn new_both(sender: u32, length: usize) -> (Answer<usize>, Vec<u8>) {
 /// `buffer` then holds what both left. Only the length field and the new bytes differ.
 pub fn add_both(buffer: &mut [u8], block: &Block) -> Answer<usize> {
     let before = buffer.to_vec();
-    let mut independent_out = before.clone();
+    let (mut whole_out, mut independent_out) = (before.clone(), before.clone());
+    let whole = raw::packet_add(&mut whole_out, block);
     let library = ours(nuvaskoe::packet::add(buffer, &library_block(block)));
     let independent = theirs(compose::add(&mut independent_out, block));
     assert_eq!(library, independent, "{block:?} to {}", shown(&before));
+    let expected = written(&independent);
+    assert_eq!(whole, expected, "{block:?} to {}", shown(&before));
+    assert!(
+        whole_out == independent_out,
+        "{block:?} to {}",
+        shown(&before)
+    );
     assert!(
         buffer == independent_out,
         "{block:?} to {}: {} and {}",

@@ -2,8 +2,9 @@
 //! every answer, and traces.
 
 use super::{
-    answers::{ours, theirs, Answer},
-    pattern, Random,
+    answers::{ours, refusal as refused, theirs, Answer},
+    boundary::{Loss, Marks},
+    pattern, raw, Random,
 };
 use independent::{
     effective::{self, EffectiveLoss},
@@ -40,6 +41,11 @@ pub fn loss_both(trace: &[u8], batch: u32, threshold: u32) -> Answer<EffectiveLo
         index: loss.index.0,
         first: loss.first,
     });
+    assert!(
+        raw::effective_loss(trace, batch, threshold) == whole_loss(&library),
+        "{library:?}: {}",
+        shown(trace, batch, threshold)
+    );
     let (b, t) = (u64::from(batch), u64::from(threshold));
     for independent in [
         effective::effective_loss(trace, b, t),
@@ -55,6 +61,20 @@ pub fn loss_both(trace: &[u8], batch: u32, threshold: u32) -> Answer<EffectiveLo
     library
 }
 
+/// The whole answer of the boundary: all after the refusal is 0 where refused.
+fn whole_loss(answer: &Answer<EffectiveLoss>) -> Loss {
+    let number = |part: fn(&EffectiveLoss) -> u64| answer.as_ref().map_or(0, part);
+    let first = answer.map_or(None, |loss| loss.first);
+    Loss {
+        refusal: refused(answer),
+        over: number(|loss| loss.over) as usize,
+        batches: number(|loss| loss.batches) as usize,
+        first: first.unwrap_or(0),
+        index: number(|loss| loss.index.into()) as u32,
+        found: first.is_some().into(),
+    }
+}
+
 /// Plans with both into equal buffers that hold `before`, and gives the answer and the buffer
 /// on which they agree. Bytes after the plan, and all where refused, keep what they held.
 pub fn plan_into(
@@ -64,6 +84,8 @@ pub fn plan_into(
     before: &[u8],
 ) -> (Answer<usize>, Vec<u8>) {
     let (mut library_out, mut independent_out) = (before.to_vec(), before.to_vec());
+    let mut whole_out = before.to_vec();
+    let whole = raw::resend_plan(trace, batch, threshold, &mut whole_out);
     let library = nuvaskoe::resend::plan(trace, batch, threshold, &mut library_out);
     let library = ours(library);
     let (b, t) = (u64::from(batch), u64::from(threshold));
@@ -71,6 +93,12 @@ pub fn plan_into(
     let shown = || shown(trace, batch, threshold);
     assert!(library == independent, "{library:?}: {}", shown());
     assert!(library_out == independent_out, "{}", shown());
+    let marks = Marks {
+        refusal: refused(&independent),
+        marks: independent.unwrap_or(0),
+    };
+    assert!(whole == marks, "{whole:?}: {}", shown());
+    assert!(whole_out == independent_out, "{}", shown());
     let written = library.map_or(0, |_| trace.len());
     assert!(library_out[written..] == before[written..], "{}", shown());
     (library, library_out)

@@ -2,8 +2,9 @@
 //! on.
 
 use super::{
-    answers::{ours, theirs, Answer},
-    pattern, Random,
+    answers::{ours, refusal, theirs, written, Answer},
+    boundary::{Card, Settings},
+    pattern, raw, Random,
 };
 use std::ops::RangeInclusive;
 
@@ -30,6 +31,11 @@ pub fn read_both(card: &[u8]) -> Answer<Fields> {
     let independent =
         theirs(independent::card::read(card)).map(|s| [s.gmin, s.batch, s.threshold, s.spacing]);
     assert_eq!(library, independent, "card {}", card.escape_ascii());
+    let whole = Card {
+        refusal: refusal(&independent),
+        settings: settings(independent.unwrap_or([0; 4])),
+    };
+    assert_eq!(raw::card_read(card), whole, "card {}", card.escape_ascii());
     library
 }
 
@@ -38,6 +44,8 @@ pub fn read_both(card: &[u8]) -> Answer<Fields> {
 pub fn write_both(fields: Fields, length: usize) -> (Answer<usize>, Vec<u8>) {
     let [gmin, batch, threshold, spacing] = fields;
     let (mut library_out, mut independent_out) = (pattern(length), pattern(length));
+    let mut whole_out = pattern(length);
+    let whole = raw::card_write(settings(fields), &mut whole_out);
     let settings = nuvaskoe::card::Settings {
         gmin,
         batch,
@@ -54,7 +62,19 @@ pub fn write_both(fields: Fields, length: usize) -> (Answer<usize>, Vec<u8>) {
     let independent = theirs(independent::card::write(settings, &mut independent_out));
     assert_eq!(library, independent, "{settings:?}, {length} bytes");
     assert_eq!(library_out, independent_out, "{settings:?}, {length} bytes");
+    assert_eq!(whole, written(&independent), "{settings:?}, {length} bytes");
+    assert_eq!(whole_out, independent_out, "{settings:?}, {length} bytes");
     (library, library_out)
+}
+
+/// The settings as the boundary has them.
+fn settings([gmin, batch, threshold, spacing]: Fields) -> Settings {
+    Settings {
+        gmin,
+        batch,
+        threshold,
+        spacing,
+    }
 }
 
 /// The card of settings in range.

@@ -1,6 +1,12 @@
-//! The library's five calls on packets and blocks, each beside the independent one.
+//! The library's five calls on packets and blocks, each beside the independent one: the safe
+//! call, and the whole answer of the boundary.
 
-use super::answers::{ours, theirs, Answer};
+use super::{
+    answers::{ours, refusal, theirs, written, Answer},
+    boundary::{Packet, Part},
+    numbers::block_answer,
+    raw,
+};
 use independent::block::{
     Block, Discard, EffectiveLoss, Loss, Measurement, Reading, Reason, TransportStream,
 };
@@ -45,6 +51,13 @@ pub fn read_both(packet: &[u8]) -> Answer<(u32, usize)> {
         ours(nuvaskoe::packet::read(packet)).map(|summary| (summary.sender, summary.blocks));
     let independent = theirs(independent::packet::read(packet));
     assert_eq!(library, independent, "packet {}", shown(packet));
+    let (sender, blocks) = independent.unwrap_or((0, 0));
+    let whole = Packet {
+        refusal: refusal(&independent),
+        sender,
+        blocks,
+    };
+    assert_eq!(raw::packet_read(packet), whole, "packet {}", shown(packet));
     library
 }
 
@@ -52,6 +65,8 @@ pub fn block_both(packet: &[u8], index: usize) -> Answer<(u8, Reading)> {
     let library = ours(nuvaskoe::packet::block(packet, index)).map(translated);
     let independent = theirs(independent::packet::block(packet, index));
     assert_eq!(library, independent, "block {index} of {}", shown(packet));
+    let (answer, whole) = (raw::packet_block(packet, index), block_answer(&independent));
+    assert_eq!(answer, whole, "block {index} of {}", shown(packet));
     library
 }
 
@@ -60,12 +75,11 @@ pub fn alone_both(block_type: u8, specific: u8, body: &[u8]) -> Reading {
     let (read_type, library) = translated(library::read(block_type, specific, body));
     assert_eq!(read_type, block_type);
     let independent = independent::block::read(block_type, specific, body);
-    assert_eq!(
-        library,
-        independent,
-        "type {block_type}, {specific:02x}, {}",
-        shown(body)
-    );
+    let input = || format!("type {block_type}, {specific:02x}, {}", shown(body));
+    assert_eq!(library, independent, "{}", input());
+    let answer = raw::block_read(block_type, specific, body);
+    let whole = block_answer(&Ok((block_type, independent)));
+    assert_eq!(answer, whole, "{}", input());
     library
 }
 
@@ -75,9 +89,11 @@ pub fn body_both(packet: &[u8], index: usize) -> Answer<()> {
     let library = nuvaskoe::packet::body(packet, index);
     let independent = independent::packet::body(packet, index);
     assert_eq!(library, independent, "body {index} of {}", shown(packet));
+    let part = raw::packet_body(packet, index);
     let (block_type, reading) = match block_both(packet, index) {
         Ok(block) => block,
         Err(refusal) => {
+            assert_eq!((part.start, part.length), (0, 0));
             assert!(library.is_empty());
             // The offset is then 0.
             assert_eq!(library.as_ptr(), packet.as_ptr());
@@ -87,6 +103,8 @@ pub fn body_both(packet: &[u8], index: usize) -> Answer<()> {
     // Also where the body is empty.
     assert_eq!(library.as_ptr(), independent.as_ptr());
     let start = library.as_ptr() as usize - packet.as_ptr() as usize;
+    let length = library.len();
+    assert_eq!(part, Part { start, length });
     let first = &packet[start - 4..start];
     assert_eq!(first[0], block_type);
     assert_eq!(
@@ -109,10 +127,14 @@ pub fn body_both(packet: &[u8], index: usize) -> Answer<()> {
 pub fn list_both(packet: &[u8], length: usize) -> (Answer<usize>, Vec<u32>) {
     let before: Vec<u32> = (0..length as u32).map(|index| !index).collect();
     let (mut library_out, mut independent_out) = (before.clone(), before.clone());
+    let mut whole_out = before.clone();
+    let whole = raw::packet_list(packet, &mut whole_out);
     let library = ours(nuvaskoe::packet::list(packet, &mut library_out));
     let independent = theirs(independent::packet::list_into(packet, &mut independent_out));
     assert_eq!(library, independent, "list of {}", shown(packet));
     assert_eq!(library_out, independent_out, "list of {}", shown(packet));
+    assert_eq!(whole, written(&independent), "list of {}", shown(packet));
+    assert_eq!(whole_out, independent_out, "list of {}", shown(packet));
     let written = library.unwrap_or(0);
     assert_eq!(library_out[written..], before[written..]);
     (library, library_out)

@@ -2,9 +2,10 @@
 
 use super::{
     adding::library_block,
-    answers::{ours, theirs, Answer},
+    answers::{ours, refusal, theirs, Answer},
     batches::spoil,
-    Random,
+    boundary::{BurstFigures, Figured},
+    raw, Random,
 };
 use independent::{
     block::Block,
@@ -17,14 +18,64 @@ use nuvaskoe::{
 };
 
 pub const EVENTS: [Event; 2] = [Event::Lost, Event::Discarded];
+/// Numbers that are no event, such as would be one if cut to fewer bits among them.
+pub const NO_EVENTS: [u32; 13] = [
+    0,
+    3,
+    4,
+    127,
+    255,
+    256,
+    257,
+    258,
+    65_537,
+    65_538,
+    1 << 31,
+    (1 << 31) | 1,
+    u32::MAX,
+];
 /// The longest trace.
 pub const LONGEST: usize = 65_536;
 pub const UNAVAILABLE: u16 = burst::UNAVAILABLE;
 pub const OVER_RANGE: u16 = burst::OVER_RANGE;
 
-/// Measures `trace` with the library and with both independent forms, and gives the
-/// answer on which they agree.
+/// Measures `trace`, and gives the answer on which all agree. An event that is none is refused.
+pub fn figures_numbered(trace: &[u8], gmin: u32, spacing: u32, event: u32) -> Answer<Figures> {
+    let expected = match event_numbered(event) {
+        None => Err((15, 0)),
+        Some(event) => safe_both(trace, gmin, spacing, event),
+    };
+    assert_eq!(
+        raw::figures(trace, gmin, spacing, event),
+        figured(&expected),
+        "{} packets {:?}, {gmin}, {spacing}, {event}",
+        trace.len(),
+        &trace[..trace.len().min(64)]
+    );
+    expected
+}
+
+/// The whole answer of the boundary: all figures are unavailable where refused.
+pub fn figured(answer: &Answer<Figures>) -> Figured {
+    let numbers = |part: fn(&Figures) -> u16| answer.as_ref().map_or(UNAVAILABLE, part);
+    Figured {
+        refusal: refusal(answer),
+        figures: BurstFigures {
+            burst_rate: numbers(|figures| figures.burst_rate),
+            gap_rate: numbers(|figures| figures.gap_rate),
+            burst_mean: numbers(|figures| figures.mean),
+            burst_variance: numbers(|figures| figures.variance),
+        },
+    }
+}
+
+/// The same of an event.
 pub fn figures_both(trace: &[u8], gmin: u32, spacing: u32, event: Event) -> Answer<Figures> {
+    figures_numbered(trace, gmin, spacing, event.byte().into())
+}
+
+/// Measures `trace` with the library's safe call and with both independent forms.
+fn safe_both(trace: &[u8], gmin: u32, spacing: u32, event: Event) -> Answer<Figures> {
     let library = library::of_trace(trace, gmin, spacing, library_event(event));
     let library = ours(library).map(|figures| independent_figures(&figures));
     let (wide_gmin, wide_spacing) = (u64::from(gmin), u64::from(spacing));
@@ -54,6 +105,22 @@ pub fn discard_block_both(figures: &Figures, source: u32, flag: u8) -> Block {
     let independent = burst::discard_block(figures, source, flag);
     assert_eq!(library, library_block(&independent), "{source}, {flag}");
     independent
+}
+
+/// The event with this number at the boundary: that of such a packet in a trace.
+pub fn event_numbered(number: u32) -> Option<Event> {
+    let mut events = EVENTS.into_iter();
+    events.find(|event| u32::from(event.byte()) == number)
+}
+
+/// An event's number, at times one that is none.
+pub fn any_event(random: &mut Random) -> u32 {
+    let any = random.draw() as u32;
+    match random.below(12) {
+        0 => random.one_of(&NO_EVENTS),
+        1 => any,
+        _ => random.one_of(&EVENTS).byte().into(),
+    }
 }
 
 pub fn library_event(event: Event) -> trace::Event {

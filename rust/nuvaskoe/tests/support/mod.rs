@@ -6,11 +6,17 @@
 pub mod adding;
 pub mod answers;
 pub mod batches;
+/// The boundary as the library's crate declares it, for what its safe calls do not show.
+#[path = "../../src/boundary.rs"]
+pub mod boundary;
 pub mod calls;
 pub mod cards;
 pub mod compare;
+pub mod drawn_tallies;
 pub mod measuring;
+pub mod numbers;
 pub mod packets;
+pub mod raw;
 pub mod tallies;
 
 use std::{env, fmt, ops::RangeInclusive, str::FromStr};

@@ -2,35 +2,38 @@
 
 use super::{call, number, Call};
 use crate::support::{
+    boundary::Tally,
+    drawn_tallies::any_numbers,
     measuring::{
-        any_figures, any_settings, any_trace, discard_block_both, figures_both, library_event,
-        loss_block_both, EVENTS,
+        any_event, any_figures, any_settings, any_trace, discard_block_both, figures_numbered,
+        loss_block_both,
     },
-    tallies::{any_tally, close_both, open_both, take_both},
+    tallies::{close_numbered, open_numbered, take_numbered},
     Random,
 };
-use independent::{burst::Figures, trace::Event};
-use nuvaskoe::tally::Tally;
+use independent::burst::Figures;
 
 pub fn calls() -> Vec<Call> {
     vec![
         call(
             "tally_open",
             &[15],
-            |random| (any_settings(random), random.one_of(&EVENTS)),
-            |((gmin, spacing), event)| number(&open_both(*gmin, *spacing, library_event(*event))),
+            |random| (any_settings(random), any_event(random)),
+            |((gmin, spacing), event)| number(&open_numbered(*gmin, *spacing, *event)),
         ),
         call("tally_take", &[15, 10, 9], taking, |(tally, packet)| {
-            number(&take_both(*tally, *packet).1)
+            number(&take_numbered(*tally, *packet).1)
         }),
-        call("tally_close", &[15], any_tally, |tally| {
-            number(&close_both(*tally))
+        call("tally_close", &[15], any_numbers, |tally| {
+            number(&close_numbered(*tally))
         }),
         call(
             "figures",
             &[15, 10, 9],
             measuring,
-            |(trace, (gmin, spacing), event)| number(&figures_both(trace, *gmin, *spacing, *event)),
+            |(trace, (gmin, spacing), event)| {
+                number(&figures_numbered(trace, *gmin, *spacing, *event))
+            },
         ),
         call("loss_block", &[], reported, |(figures, source, flag)| {
             loss_block_both(figures, *source, *flag);
@@ -47,11 +50,11 @@ pub fn calls() -> Vec<Call> {
 fn taking(random: &mut Random) -> (Tally, u8) {
     let any = random.byte();
     let packet = random.one_of(&[0, 0, 1, 1, 1, 2, 2, 2, 3, any]);
-    (any_tally(random), packet)
+    (any_numbers(random), packet)
 }
 
-fn measuring(random: &mut Random) -> (Vec<u8>, (u32, u32), Event) {
-    let event = random.one_of(&EVENTS);
+fn measuring(random: &mut Random) -> (Vec<u8>, (u32, u32), u32) {
+    let event = any_event(random);
     (any_trace(random), any_settings(random), event)
 }
 

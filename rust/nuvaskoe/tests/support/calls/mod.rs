@@ -1,5 +1,5 @@
 //! Every public call of include/nuvaskoe.h with inputs drawn for it, good and hostile, and the
-//! comparison of its answer and of all lent bytes with the independent one. Case number n is
+//! comparison of its whole answer and of all lent bytes with the independent one. Case number n is
 //! of call n modulo how many there are, and is drawn from the seed and n alone.
 
 mod batches;

@@ -1,0 +1,101 @@
+//! The boundary's calls on slices: whole answers, of which the safe calls show a part.
+
+use super::boundary::{self, *};
+
+pub fn card_read(card: &[u8]) -> Card {
+    // SAFETY: a slice's pointer is never null and is good for reading its length; so below,
+    // and a slice lent for writing lends all its length.
+    unsafe { boundary::nuvaskoe_card_read(card.as_ptr(), card.len()) }
+}
+
+pub fn card_write(settings: Settings, out: &mut [u8]) -> Written {
+    // SAFETY: as above.
+    unsafe { boundary::nuvaskoe_card_write(settings, out.as_mut_ptr(), out.len()) }
+}
+
+pub fn packet_read(packet: &[u8]) -> Packet {
+    // SAFETY: as above.
+    unsafe { boundary::nuvaskoe_packet_read(packet.as_ptr(), packet.len()) }
+}
+
+pub fn packet_block(packet: &[u8], index: usize) -> Block {
+    // SAFETY: as above.
+    unsafe { boundary::nuvaskoe_packet_block(packet.as_ptr(), packet.len(), index) }
+}
+
+pub fn packet_body(packet: &[u8], index: usize) -> Part {
+    // SAFETY: as above.
+    unsafe { boundary::nuvaskoe_packet_body(packet.as_ptr(), packet.len(), index) }
+}
+
+pub fn packet_list(packet: &[u8], out: &mut [u32]) -> Written {
+    let (start, length) = (packet.as_ptr(), packet.len());
+    // SAFETY: as above.
+    unsafe { boundary::nuvaskoe_packet_list(start, length, out.as_mut_ptr(), out.len()) }
+}
+
+pub fn block_read(block_type: u8, specific: u8, body: &[u8]) -> Block {
+    // SAFETY: as above.
+    unsafe { boundary::nuvaskoe_block_read(block_type, specific, body.as_ptr(), body.len()) }
+}
+
+pub fn packet_new(sender: u32, out: &mut [u8]) -> Written {
+    // SAFETY: as above.
+    unsafe { boundary::nuvaskoe_packet_new(sender, out.as_mut_ptr(), out.len()) }
+}
+
+pub fn packet_add(out: &mut [u8], block: &independent::block::Block) -> Written {
+    use independent::block::Block;
+    let (start, length) = (out.as_mut_ptr(), out.len());
+    // SAFETY: as above.
+    unsafe {
+        match block {
+            Block::Measurement(block) => {
+                boundary::nuvaskoe_packet_add_measurement(start, length, block.into())
+            }
+            Block::Loss(block) => boundary::nuvaskoe_packet_add_loss(start, length, block.into()),
+            Block::Discard(block) => {
+                boundary::nuvaskoe_packet_add_discard(start, length, block.into())
+            }
+            Block::EffectiveLoss(block) => {
+                boundary::nuvaskoe_packet_add_effective(start, length, block.into())
+            }
+            Block::TransportStream(block) => {
+                boundary::nuvaskoe_packet_add_streams(start, length, block.into())
+            }
+        }
+    }
+}
+
+pub fn tally_open(gmin: u32, spacing: u32, event: u32) -> Tallied {
+    // SAFETY: it takes any numbers.
+    unsafe { boundary::nuvaskoe_tally_open(gmin, spacing, event) }
+}
+
+pub fn tally_take(tally: Tally, packet: u8) -> Tallied {
+    // SAFETY: it takes any numbers.
+    unsafe { boundary::nuvaskoe_tally_take(tally, packet) }
+}
+
+pub fn tally_close(tally: Tally) -> Figured {
+    // SAFETY: it takes any numbers.
+    unsafe { boundary::nuvaskoe_tally_close(tally) }
+}
+
+pub fn figures(trace: &[u8], gmin: u32, spacing: u32, event: u32) -> Figured {
+    let (start, length) = (trace.as_ptr(), trace.len());
+    // SAFETY: as above.
+    unsafe { boundary::nuvaskoe_figures(start, length, gmin, spacing, event) }
+}
+
+pub fn effective_loss(trace: &[u8], batch: u32, threshold: u32) -> Loss {
+    // SAFETY: as above.
+    unsafe { boundary::nuvaskoe_effective_loss(trace.as_ptr(), trace.len(), batch, threshold) }
+}
+
+pub fn resend_plan(trace: &[u8], batch: u32, threshold: u32, out: &mut [u8]) -> Marks {
+    let (start, length) = (trace.as_ptr(), trace.len());
+    let (out, room) = (out.as_mut_ptr(), out.len());
+    // SAFETY: as above.
+    unsafe { boundary::nuvaskoe_resend_plan(start, length, batch, threshold, out, room) }
+}
