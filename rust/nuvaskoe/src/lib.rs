@@ -21,12 +21,13 @@
 #![deny(missing_docs)]
 
 pub mod block;
-#[allow(dead_code)] // It is declared whole.
+#[rustfmt::skip]
 mod boundary;
 pub mod card;
 pub mod effective;
 pub mod figures;
 pub mod packet;
+#[rustfmt::skip]
 mod refusals;
 pub mod resend;
 pub mod tally;
@@ -66,13 +67,8 @@ impl Refusal {
 impl fmt::Display for Refusal {
     fn fmt(&self, f: &mut fmt::Formatter<'_>) -> fmt::Result {
         let Refusal { kind, place } = self;
-        write!(f, "refused {} at {place}: ", kind.number())?;
-        // The table has P for the place.
-        match kind.meaning().split_once(" P ") {
-            Some((before, after)) => write!(f, "{before} {place} {after}")?,
-            None => f.write_str(kind.meaning())?,
-        }
-        write!(f, "; {}", kind.advice())
+        let (number, meaning, advice) = (kind.number(), kind.meaning(), kind.advice());
+        write!(f, "refused {number} at {place}: {meaning}; {advice}")
     }
 }
 

@@ -48,7 +48,7 @@ pub fn block(packet: &[u8], index: usize) -> Result<Reading, Refusal> {
         Ok(()) => Ok(Reading::new(&answer)),
         Err(refusal) => {
             debug_assert_eq!(
-                (answer.kind, answer.verdict),
+                (answer.block_type, answer.verdict),
                 (0, boundary::VERDICT_UNKNOWN)
             );
             debug_assert_eq!(answer.fields, [0; boundary::FIELDS]);

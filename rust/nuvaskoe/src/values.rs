@@ -123,7 +123,7 @@ pub struct EffectiveIndex(
 
 impl EffectiveIndex {
     /// Every batch is over the threshold.
-    pub const FULL_LOSS: EffectiveIndex = EffectiveIndex(boundary::FULL_LOSS);
+    pub const FULL_LOSS: EffectiveIndex = EffectiveIndex(boundary::FULL_LOSS as u16);
 
     /// The same as a fraction from 0 to 1.
     pub fn fraction(self) -> f64 {

@@ -12,7 +12,9 @@ impl Reading {
     /// The reading in an answer that is no refusal.
     pub(crate) fn new(answer: &boundary::Block) -> Reading {
         let verdict = match answer.verdict {
-            boundary::VERDICT_TYPED => Verdict::Typed(Block::new(answer.kind, &answer.fields)),
+            boundary::VERDICT_TYPED => {
+                Verdict::Typed(Block::new(answer.block_type, &answer.fields))
+            }
             without_fields => {
                 unused(&answer.fields);
                 match without_fields {
@@ -26,7 +28,7 @@ impl Reading {
             }
         };
         Reading {
-            block_type: narrow(answer.kind),
+            block_type: narrow(answer.block_type),
             verdict,
         }
     }
@@ -37,11 +39,11 @@ type Fields = [u32; boundary::FIELDS];
 impl Block {
     fn new(block_type: u32, fields: &Fields) -> Block {
         match block_type {
-            14 => Block::Measurement(Measurement::new(fields)),
-            17 => Block::Loss(Loss::new(fields)),
-            18 => Block::Discard(Discard::new(fields)),
-            240 => Block::EffectiveLoss(EffectiveLoss::new(fields)),
-            241 => Block::TransportStream(TransportStream::new(fields)),
+            boundary::BLOCK_MEASUREMENT => Block::Measurement(Measurement::new(fields)),
+            boundary::BLOCK_LOSS => Block::Loss(Loss::new(fields)),
+            boundary::BLOCK_DISCARD => Block::Discard(Discard::new(fields)),
+            boundary::BLOCK_EFFECTIVE => Block::EffectiveLoss(EffectiveLoss::new(fields)),
+            boundary::BLOCK_STREAMS => Block::TransportStream(TransportStream::new(fields)),
             other => unreachable!("typed block of type {other}"),
         }
     }

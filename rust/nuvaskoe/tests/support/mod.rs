@@ -8,6 +8,7 @@ pub mod answers;
 pub mod batches;
 /// The boundary as the library's crate declares it, for what its safe calls do not show.
 #[path = "../../src/boundary.rs"]
+#[rustfmt::skip]
 pub mod boundary;
 pub mod calls;
 pub mod cards;

@@ -10,13 +10,13 @@ use independent::block::{
 
 /// The whole answer to asking for a block. Where refused, the verdict is unknown and all else 0.
 pub fn block_answer(answer: &Answer<(u8, Reading)>) -> boundary::Block {
-    let (kind, verdict, fields) = match answer {
+    let (block_type, verdict, fields) = match answer {
         Ok((block_type, reading)) => (u32::from(*block_type), reading.verdict(), fields(reading)),
         Err(_) => (0, Reading::Unknown.verdict(), [0; boundary::FIELDS]),
     };
     boundary::Block {
         refusal: refusal(answer),
-        kind,
+        block_type,
         verdict,
         fields,
     }

@@ -59,7 +59,7 @@ fn number<T>(answer: &Answer<T>) -> u32 {
     answer.as_ref().map_or_else(|refusal| refusal.0, |_| 0)
 }
 
-/// All calls, in the header's order.
+/// All calls.
 pub fn calls() -> Vec<Call> {
     let mut calls = cards::calls();
     calls.extend(reading::calls());
