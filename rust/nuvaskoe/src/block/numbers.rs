@@ -169,9 +169,9 @@ impl From<&EffectiveLoss> for boundary::EffectiveSummary {
 
 impl From<&TransportStream> for boundary::StreamCounts {
     fn from(block: &TransportStream) -> Self {
-        let [sync_losses, sync_byte_errors, continuity_errors, transport_errors, pcr @ .., pts_errors] =
+        let [sync_losses, sync_byte_errors, continuity_errors, transport_errors, rest @ ..] =
             block.counts;
-        let [pcr_errors, pcr_repetition_errors, pcr_discontinuity_errors] = pcr;
+        let [pcr_errors, pcr_repetition_errors, pcr_discontinuity_errors, pts_errors] = rest;
         Self {
             source: block.source,
             begin: block.begin,
