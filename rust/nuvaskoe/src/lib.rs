@@ -38,6 +38,14 @@ pub use refusals::RefusalKind;
 
 use std::{error, fmt};
 
+/// The version of the library that is linked: major × 10,000 + minor × 100 + patch. It is
+/// this crate's.
+#[inline]
+pub fn version() -> u32 {
+    // SAFETY: it takes nothing.
+    unsafe { boundary::nuvaskoe_version() }
+}
+
 /// Why a call said no. Shown, it says what went wrong and what to do:
 ///
 /// ```

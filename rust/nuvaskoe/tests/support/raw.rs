@@ -2,6 +2,11 @@
 
 use super::boundary::{self, *};
 
+pub fn version() -> u32 {
+    // SAFETY: it takes nothing.
+    unsafe { boundary::nuvaskoe_version() }
+}
+
 pub fn card_read(card: &[u8]) -> Card {
     // SAFETY: a slice's pointer is never null and is good for reading its length; so below,
     // and a slice lent for writing lends all its length.

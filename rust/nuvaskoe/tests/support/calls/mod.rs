@@ -8,7 +8,7 @@ mod measuring;
 mod reading;
 mod writing;
 
-use super::{answers::Answer, Random};
+use super::{answers::Answer, raw, Random};
 use std::{
     collections::BTreeMap,
     fmt::{self, Debug},
@@ -61,12 +61,22 @@ fn number<T>(answer: &Answer<T>) -> u32 {
 
 /// All calls.
 pub fn calls() -> Vec<Call> {
-    let mut calls = cards::calls();
+    let mut calls = vec![call("version", &[], |_| (), |()| version_both())];
+    calls.extend(cards::calls());
     calls.extend(reading::calls());
     calls.extend(writing::calls());
     calls.extend(measuring::calls());
     calls.extend(batches::calls());
     calls
+}
+
+/// The library's version is that of its crate; it is never refused.
+fn version_both() -> u32 {
+    let parts = env!("CARGO_PKG_VERSION").split('.');
+    let parts = parts.map(|part| part.parse::<u32>().expect("a number"));
+    let version = parts.fold(0, |version, part| 100 * version + part);
+    assert_eq!((raw::version(), nuvaskoe::version()), (version, version));
+    0
 }
 
 /// How many cases of each call were answered, and refused with each number.
