@@ -1,9 +1,9 @@
 #!/usr/bin/env python3
-"""Runs target/bin/cases on crates/cases/stdin and compares what it writes with text computed by tests/document01.py.
+"""Runs each program of worked cases on its file stdin and compares what it writes with text computed by tests/document01.py.
 
-Run in the repository's root after `rt check cases`. Prints each line that differs and exits with status 1, or one line.
-`--print` writes the computed text instead, for which the program is not needed. A case is a word, its numbers and its data
-(NUMBERS below); a line that is empty or a comment is copied.
+Run in the repository's root after `rt check`. Prints each line that differs and exits with
+status 1, or one line for each program. `--print NAME` writes the text computed for one program instead, which need not be there.
+A case is a word, its numbers and its data (NUMBERS below); a line that is empty or a comment is copied.
 """
 import os
 import pathlib
@@ -14,17 +14,23 @@ sys.dont_write_bytecode = True  # a run leaves no files in the tree
 import document01
 from document01 import Refused
 
-PROGRAM = os.environ.get("CASES", "target/bin/cases")
-LIST = pathlib.Path("crates/cases/stdin")
+PROGRAMS = pathlib.Path(os.environ.get("PROGRAMS", "target/bin"))
 MOST_TEXT = 65536
 SHOWN_BYTES, SHOWN_ENTRIES = 64, 16
 HELD = 7  # what each lent byte or entry holds before the call
 
 # The greatest number that a field holds, by the field's name; any other field holds 32 bits.
 LIMITS = {"type": 255, "specific": 255, "flag": 255, "packet": 255, "first": 65535, "begin": 65535, "end": 65535,
-          "burst": 65535, "gap": 65535, "mean": 65535, "var": 65535, "index": 65535, "LEN": 262144, "ROOM": 65600,
-          "ENTRIES": 1024}
+          "burst": 65535, "gap": 65535, "mean": 65535, "var": 65535, "index": 65535, "LEN": 262144, "PACKETS": 65600,
+          "MARKS": 65600, "ROOM": 1024, "ENTRIES": 1024}
 TALLY = "event gmin spacing E L Eb Lb n S Q events packets since"
+# The words of each program.
+WORDS = {
+    "packet_cases": ("read", "block", "body", "list", "alone"),
+    "adding_cases": ("new", "add14", "add17", "add18", "add240", "add241"),
+    "trace_cases": ("card", "write", "figures", "loss", "plan"),
+    "tally_cases": ("tally", "close", "take"),
+}
 # The fields of each word, then the kind of its data, if it takes any.
 NUMBERS = {
     "read": ("LEN", "bytes"), "block": ("k LEN", "bytes"), "body": ("k LEN", "bytes"), "list": ("ENTRIES LEN", "bytes"),
@@ -34,9 +40,9 @@ NUMBERS = {
     "add240": ("source index LEN", "bytes"),
     "add241": ("source begin end streams c1 c2 c3 c4 c5 c6 c7 c8 LEN", "bytes"),
     "card": ("", "card"), "write": ("gmin batch threshold spacing ROOM", None),
-    "figures": ("event gmin spacing LEN", "trace"), "tally": ("event gmin spacing LEN", "trace"),
+    "figures": ("event gmin spacing PACKETS", "trace"), "tally": ("event gmin spacing PACKETS", "trace"),
     "close": (TALLY, None), "take": (TALLY + " packet", None),
-    "loss": ("B T LEN", "trace"), "plan": ("B T ROOM LEN", "trace"),
+    "loss": ("B T PACKETS", "trace"), "plan": ("B T MARKS PACKETS", "trace"),
 }
 # Type, whether a flag comes first, where the rates stand, and the words after the first as struct has them.
 LAYOUTS = {"add14": (14, False, (), "I2xHIIIII"), "add17": (17, True, (2, 3), "IHHHH"), "add18": (18, True, (2, 3), "IHH"),
@@ -52,10 +58,10 @@ def no_case_if(condition):
         raise NoCase
 
 
-def parsed(line):
-    """The word, its numbers and its data as bytes."""
+def parsed(line, words):
+    """The word, which has to be one of these, its numbers and its data as bytes."""
     word, *rest = line.split(" ", 1)
-    no_case_if(word not in NUMBERS)
+    no_case_if(word not in words)
     fields, kind = NUMBERS[word]
     numbers = []
     for field in fields.split():
@@ -65,12 +71,12 @@ def parsed(line):
         no_case_if(field == "event" and int(digits) not in (1, 2))
         numbers.append(int(digits))
     text = rest[0] if rest else ""
+    no_case_if(rest and not text)
     if kind is None:
         no_case_if(rest)
         return word, numbers, b""
     if kind == "card":
         return word, numbers, text.encode("latin-1")
-    no_case_if(rest and not text)
     data = trace_data(text) if kind == "trace" else hexadecimal(text)
     no_case_if(len(data) > numbers[-1])
     return word, numbers, data + bytes(numbers[-1] - len(data))
@@ -162,9 +168,9 @@ def asking(word, numbers, data):
     return "taken " + " ".join(str(count) for count in document01.take(*numbers[:3], numbers[3:13], numbers[13]))
 
 
-def answer(line):
+def answer(line, words):
     try:
-        word, numbers, data = parsed(line)
+        word, numbers, data = parsed(line, words)
         if word in LAYOUTS or word in ("new", "write", "list", "plan"):
             return lending(word, numbers, data)
         return asking(word, numbers, data)
@@ -178,23 +184,25 @@ def is_case(line):
     return line != "" and not line.startswith("#")
 
 
-def computed(text):
-    """What the program has to write for this text, line by line."""
+def computed(text, words):
+    """What a program with these words has to write for this text, line by line."""
     if len(text) > MOST_TEXT:
         return ["too long"]
     lines = []
     for line in text.decode("latin-1").removesuffix("\n").split("\n"):
         lines.append(line)
         if is_case(line):
-            lines.append("  " + answer(line))
+            lines.append("  " + answer(line, words))
     return lines
 
 
-def compare(text, expected):
-    if not os.path.exists(PROGRAM):
-        print(f"cases: {PROGRAM} is not there; `rt check cases` makes it")
-        return 1
-    ours = subprocess.run([PROGRAM], input=text, stdout=subprocess.PIPE, check=True).stdout.decode("latin-1").split("\n")
+def compare(name, text, expected):
+    """Whether the program writes this text."""
+    program = PROGRAMS / name
+    if not program.exists():
+        print(f"{name}: {program} is not there; `rt check {name}` makes it")
+        return False
+    ours = subprocess.run([program], input=text, stdout=subprocess.PIPE, check=True).stdout.decode("latin-1").split("\n")
     wanted = expected + [""]  # the text ends in a newline
     cases = different = 0
     for at in range(max(len(ours), len(wanted))):
@@ -205,21 +213,22 @@ def compare(text, expected):
         if mine != other:
             different += 1
             above = f" (answer to: {wanted[at - 1][:200]})" if answers_case else ""
-            print(f"line {at + 1}{above}\n  ours:     {mine}\n  expected: {other}")
+            print(f"{name}, line {at + 1}{above}\n  ours:     {mine}\n  expected: {other}")
     if different:
-        print(f"cases: {different} lines differ")
-        return 1
-    print(f"cases: {cases} of {cases} the same")
-    return 0
+        print(f"{name}: {different} lines differ")
+        return False
+    print(f"{name}: {cases} of {cases} the same")
+    return True
 
 
 def main():
-    text = LIST.read_bytes()
-    expected = computed(text)
-    if sys.argv[1:] == ["--print"]:
-        sys.stdout.write("\n".join(expected) + "\n")
+    texts = {name: pathlib.Path("crates", name, "stdin").read_bytes() for name in WORDS}
+    if sys.argv[1:2] == ["--print"]:
+        name = sys.argv[2]
+        sys.stdout.write("\n".join(computed(texts[name], WORDS[name])) + "\n")
         return 0
-    return compare(text, expected)
+    good = [compare(name, text, computed(text, WORDS[name])) for name, text in texts.items()]
+    return 0 if all(good) else 1
 
 
 if __name__ == "__main__":

@@ -1,10 +1,7 @@
--- How long each text can be: a number takes at most twenty bytes after its label, and a typed block 400. Assumes
--- nothing.
-use Prim.Native.Nat.{ℕ, _+_, _≤_}
-use mathlib.Core.Path.{_≡_, refl}
-use mathlib.Core.List.{List}
+-- How long the text of a typed block can be: at most 400 bytes. Assumes nothing.
+use Prim.Native.Nat.{_≤_}
+use mathlib.Core.Path.{refl}
 use native.Mathlib.Omega.{arith}
-use native.Mathlib.Decide.{ℕ-discrete}
 use lib.ListN.{length, length-append}
 use Rattle.block.specs.declared.Measurement.{Measurement}
 use Rattle.block.specs.declared.LossSummary.{LossSummary}
@@ -13,30 +10,10 @@ use Rattle.block.specs.declared.EffectiveLoss.{EffectiveLoss}
 use Rattle.block.specs.declared.StreamCounts.{StreamCounts}
 use Rattle.block.specs.declared.Block.{Block}
 use Rattle.block.specs.declared.Block.the-variants.{Measured, Loss, Discard, Effective, Streams}
-use Rattle.block.specs.Reading.{unavailable}
 use Rattle.block.specs.Layouts.{covered}
-use Rattle.text.specs.Text.{decimalMost}
-use Rattle.text.proofs.Digits.{length-decimal, length-hex}
-use Rattle.fields.specs.Words as words
-use Rattle.fields.specs.Fields.{overRange, number, source, figure, measurementText, lossText, discardText, effectiveText, countsText, streamsText, typedText}
-use Rattle.fields.proofs.Figures.{figure-over, figure-none, figure-number}
-
-module _ (label : List ℕ) (w : ℕ) (is : length label ≡ w) (n : ℕ) where
-  pub number-most : length (number label n) ≤ w + 20
-  unfolding number
-  number-most = simp length-append (omega (arith, length-decimal decimalMost n))
-
-  pub source-most : length (source label n) ≤ w + 8
-  unfolding source
-  source-most = simp length-append (omega (arith, length-hex n))
-
-  figure-most : length (figure label n) ≤ w + 20
-  figure-most = go (ℕ-discrete n overRange) (ℕ-discrete n unavailable)
-    where
-      go : Dec (n ≡ overRange) → Dec (n ≡ unavailable) → length (figure label n) ≤ w + 20
-      go (yes o) d = rw (← figure-over label n o) (simp length-append (omega arith))
-      go (no o) (yes u) = rw (← figure-none label n u) (simp length-append (omega arith))
-      go (no o) (no u) = rw (← figure-number label n o u) (simp length-append (omega (arith, length-decimal decimalMost n)))
+use Rattle.labels.specs.Words as words
+use Rattle.labels.proofs.Lengths.{number-most, source-most, figure-most}
+use Rattle.fields.specs.Fields.{measurementText, lossText, discardText, effectiveText, countsText, streamsText, typedText}
 
 measurement-most : (m : Measurement) → length (measurementText m) ≤ 400
 unfolding measurementText

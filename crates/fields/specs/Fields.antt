@@ -1,9 +1,7 @@
 -- The typed blocks of a listing in text: document 01, "Sheet of examples". "Here r is a decimal, `over` or `none`; S is eight
 -- lower-case hex digits, D the reason's number alone (4 for D4), `bytes n` counts the body, the rest decimal."
 use Prim.Native.Nat.{ℕ}
-use mathlib.Core.Bool.{cond}
 use mathlib.Core.List.{List, _++_}
-use lib.Dec.{eqb}
 use Rattle.block.specs.declared.Measurement.{Measurement}
 use Rattle.block.specs.declared.LossSummary.{LossSummary}
 use Rattle.block.specs.declared.DiscardSummary.{DiscardSummary}
@@ -11,23 +9,9 @@ use Rattle.block.specs.declared.EffectiveLoss.{EffectiveLoss}
 use Rattle.block.specs.declared.StreamCounts.{StreamCounts}
 use Rattle.block.specs.declared.Block.{Block}
 use Rattle.block.specs.declared.Block.the-variants.{Measured, Loss, Discard, Effective, Streams}
-use Rattle.block.specs.Reading.{unavailable}
 use Rattle.block.specs.Layouts.{covered}
-use Rattle.text.specs.Text.{decimalOf, hexOf}
-use Rattle.fields.specs.Words as words
-
-abbrev pub overRange : ℕ
-overRange = 65534
-
--- a label, and after it a number, a source or a figure r
-unfoldable pub number : List ℕ → ℕ → List ℕ
-number label n = label ++ decimalOf n
-
-unfoldable pub source : List ℕ → ℕ → List ℕ
-source label n = label ++ hexOf n
-
-unfoldable pub figure : List ℕ → ℕ → List ℕ
-figure label r = label ++ cond (eqb r overRange) words.over (cond (eqb r unavailable) words.none (decimalOf r))
+use Rattle.labels.specs.Words as words
+use Rattle.labels.specs.Labels.{number, source, figure}
 
 -- `k meas source S first F efirst A elast B interval D seconds X fraction Y`, after the k
 unfoldable pub measurementText : Measurement → List ℕ

@@ -5,8 +5,9 @@ use lib.ListN.{length-append}
 use Rattle.block.specs.declared.BlockRead.the-variants.{Typed, Unknown, Dropped}
 use Rattle.text.specs.Text.{decimalMost}
 use Rattle.text.proofs.Digits.{length-decimal}
-use Rattle.fields.specs.Words as words
-use Rattle.fields.proofs.Lengths.{number-most, source-most, typed-most}
+use Rattle.labels.specs.Words as words
+use Rattle.labels.proofs.Lengths.{number-most, source-most}
+use Rattle.fields.proofs.Lengths.{typed-most}
 use Rattle.lines.specs.Laws.{Block-fits, Head-fits, Refusal-fits}
 
 pub block-fits : Block-fits

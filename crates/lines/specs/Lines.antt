@@ -6,8 +6,9 @@ use Rattle.refusal.specs.declared.Refusal.{Refusal}
 use Rattle.block.specs.declared.BlockRead.{BlockRead}
 use Rattle.block.specs.declared.BlockRead.the-variants.{Typed, Unknown, Dropped}
 use Rattle.text.specs.Text.{decimalOf}
-use Rattle.fields.specs.Words as words
-use Rattle.fields.specs.Fields.{number, source, typedText}
+use Rattle.labels.specs.Words as words
+use Rattle.labels.specs.Labels.{number, source}
+use Rattle.fields.specs.Fields.{typedText}
 
 -- room that is enough for any line, in bytes
 abbrev pub lineRoom : ℕ

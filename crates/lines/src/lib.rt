@@ -2,8 +2,8 @@
 // position at on, its newline too, and answers where it ends. A line is never
 // longer than LINE bytes.
 use block::BlockRead;
-use fields::put_number;
-use fields::put_source;
+use labels::put_number;
+use labels::put_source;
 use refusal::Refusal;
 ghost use mathlib.Core.Path.{_≡_};
 ghost use Rattle.text.specs.Page.{placed, endAt};

@@ -11,21 +11,18 @@ slice-aggregate-put-source c = search needs
 put-source-requires : tie.Need-put-source-requires
 put-source-requires c κs = search needs
 
-slice-aggregate-put-number : tie.Need-slice-aggregate-put-number
-slice-aggregate-put-number c = search needs
+slice-aggregate-put-u16 : tie.Need-slice-aggregate-put-u16
+slice-aggregate-put-u16 c = search needs
 
-cast-put-number : tie.Need-cast-put-number
-cast-put-number c = search needs
-
-put-number-requires : tie.Need-put-number-requires
-put-number-requires c κs = search needs
+put-u16-requires : tie.Need-put-u16-requires
+put-u16-requires c κs = search needs
 
 returns : tie.Need-returns
 unfolding effectiveText
 returns c =
     joined _ _ _ _ _ _ _ _
-    (c .before .before .before .before .before .before .before .before .put-source .ensures)
-    (c .before .before .put-number .ensures)
+    (c .before .before .before .before .before .before .before .put-source .ensures)
+    (c .before .before .put-u16 .ensures)
 
 same-length : tie.Need-same-length
 same-length c = keeps-length _ _ _ _ _ (returns c)
@@ -36,8 +33,7 @@ put-effective-spec =
     (tie.spec
     slice-aggregate-put-source
     put-source-requires
-    slice-aggregate-put-number
-    cast-put-number
-    put-number-requires
+    slice-aggregate-put-u16
+    put-u16-requires
     same-length
     returns)

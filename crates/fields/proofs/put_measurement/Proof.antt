@@ -11,59 +11,41 @@ slice-aggregate-put-source c = search needs
 put-source-requires : tie.Need-put-source-requires
 put-source-requires c κs = search needs
 
-slice-aggregate-put-number : tie.Need-slice-aggregate-put-number
-slice-aggregate-put-number c = search needs
+slice-aggregate-put-u16 : tie.Need-slice-aggregate-put-u16
+slice-aggregate-put-u16 c = search needs
 
-cast-put-number : tie.Need-cast-put-number
-cast-put-number c = search needs
+put-u16-requires : tie.Need-put-u16-requires
+put-u16-requires c κs = search needs
 
-put-number-requires : tie.Need-put-number-requires
-put-number-requires c κs = search needs
+slice-aggregate-put-u32 : tie.Need-slice-aggregate-put-u32
+slice-aggregate-put-u32 c = search needs
 
-slice-aggregate-put-number-2 : tie.Need-slice-aggregate-put-number-2
-slice-aggregate-put-number-2 c = search needs
+put-u32-requires : tie.Need-put-u32-requires
+put-u32-requires c κs = search needs
 
-cast-put-number-2 : tie.Need-cast-put-number-2
-cast-put-number-2 c = search needs
+slice-aggregate-put-u32-2 : tie.Need-slice-aggregate-put-u32-2
+slice-aggregate-put-u32-2 c = search needs
 
-put-number-requires-2 : tie.Need-put-number-requires-2
-put-number-requires-2 c κs = search needs
+put-u32-requires-2 : tie.Need-put-u32-requires-2
+put-u32-requires-2 c κs = search needs
 
-slice-aggregate-put-number-3 : tie.Need-slice-aggregate-put-number-3
-slice-aggregate-put-number-3 c = search needs
+slice-aggregate-put-u32-3 : tie.Need-slice-aggregate-put-u32-3
+slice-aggregate-put-u32-3 c = search needs
 
-cast-put-number-3 : tie.Need-cast-put-number-3
-cast-put-number-3 c = search needs
+put-u32-requires-3 : tie.Need-put-u32-requires-3
+put-u32-requires-3 c κs = search needs
 
-put-number-requires-3 : tie.Need-put-number-requires-3
-put-number-requires-3 c κs = search needs
+slice-aggregate-put-u32-4 : tie.Need-slice-aggregate-put-u32-4
+slice-aggregate-put-u32-4 c = search needs
 
-slice-aggregate-put-number-4 : tie.Need-slice-aggregate-put-number-4
-slice-aggregate-put-number-4 c = search needs
+put-u32-requires-4 : tie.Need-put-u32-requires-4
+put-u32-requires-4 c κs = search needs
 
-cast-put-number-4 : tie.Need-cast-put-number-4
-cast-put-number-4 c = search needs
+slice-aggregate-put-u32-5 : tie.Need-slice-aggregate-put-u32-5
+slice-aggregate-put-u32-5 c = search needs
 
-put-number-requires-4 : tie.Need-put-number-requires-4
-put-number-requires-4 c κs = search needs
-
-slice-aggregate-put-number-5 : tie.Need-slice-aggregate-put-number-5
-slice-aggregate-put-number-5 c = search needs
-
-cast-put-number-5 : tie.Need-cast-put-number-5
-cast-put-number-5 c = search needs
-
-put-number-requires-5 : tie.Need-put-number-requires-5
-put-number-requires-5 c κs = search needs
-
-slice-aggregate-put-number-6 : tie.Need-slice-aggregate-put-number-6
-slice-aggregate-put-number-6 c = search needs
-
-cast-put-number-6 : tie.Need-cast-put-number-6
-cast-put-number-6 c = search needs
-
-put-number-requires-6 : tie.Need-put-number-requires-6
-put-number-requires-6 c κs = search needs
+put-u32-requires-5 : tie.Need-put-u32-requires-5
+put-u32-requires-5 c κs = search needs
 
 returns : tie.Need-returns
 unfolding measurementText
@@ -74,13 +56,13 @@ returns c =
     (joined _ _ _ _ _ _ _ _
     (joined _ _ _ _ _ _ _ _
     (joined _ _ _ _ _ _ _ _
-    (c .before .before .before .before .before .before .before .before .before .before .before .before .before .before .before .before .before .before .before .before .before .before .before .before .before .before .before .before .before .before .before .before .before .before .before .before .before .before .put-source .ensures)
-    (c .before .before .before .before .before .before .before .before .before .before .before .before .before .before .before .before .before .before .before .before .before .before .before .before .before .before .before .before .before .before .before .before .put-number .ensures))
-    (c .before .before .before .before .before .before .before .before .before .before .before .before .before .before .before .before .before .before .before .before .before .before .before .before .before .before .put-number2 .ensures))
-    (c .before .before .before .before .before .before .before .before .before .before .before .before .before .before .before .before .before .before .before .before .put-number3 .ensures))
-    (c .before .before .before .before .before .before .before .before .before .before .before .before .before .before .put-number4 .ensures))
-    (c .before .before .before .before .before .before .before .before .put-number5 .ensures))
-    (c .before .before .put-number6 .ensures)
+    (c .before .before .before .before .before .before .before .before .before .before .before .before .before .before .before .before .before .before .before .before .before .before .before .before .before .before .before .before .before .before .before .before .put-source .ensures)
+    (c .before .before .before .before .before .before .before .before .before .before .before .before .before .before .before .before .before .before .before .before .before .before .before .before .before .before .before .put-u16 .ensures))
+    (c .before .before .before .before .before .before .before .before .before .before .before .before .before .before .before .before .before .before .before .before .before .before .put-u32 .ensures))
+    (c .before .before .before .before .before .before .before .before .before .before .before .before .before .before .before .before .before .put-u322 .ensures))
+    (c .before .before .before .before .before .before .before .before .before .before .before .before .put-u323 .ensures))
+    (c .before .before .before .before .before .before .before .put-u324 .ensures))
+    (c .before .before .put-u325 .ensures)
 
 same-length : tie.Need-same-length
 same-length c = keeps-length _ _ _ _ _ (returns c)
@@ -91,23 +73,17 @@ put-measurement-spec =
     (tie.spec
     slice-aggregate-put-source
     put-source-requires
-    slice-aggregate-put-number
-    cast-put-number
-    put-number-requires
-    slice-aggregate-put-number-2
-    cast-put-number-2
-    put-number-requires-2
-    slice-aggregate-put-number-3
-    cast-put-number-3
-    put-number-requires-3
-    slice-aggregate-put-number-4
-    cast-put-number-4
-    put-number-requires-4
-    slice-aggregate-put-number-5
-    cast-put-number-5
-    put-number-requires-5
-    slice-aggregate-put-number-6
-    cast-put-number-6
-    put-number-requires-6
+    slice-aggregate-put-u16
+    put-u16-requires
+    slice-aggregate-put-u32
+    put-u32-requires
+    slice-aggregate-put-u32-2
+    put-u32-requires-2
+    slice-aggregate-put-u32-3
+    put-u32-requires-3
+    slice-aggregate-put-u32-4
+    put-u32-requires-4
+    slice-aggregate-put-u32-5
+    put-u32-requires-5
     same-length
     returns)

@@ -2,8 +2,9 @@
 use mathlib.Core.Path.{ap}
 use borrow.Author.Needs.{needs}
 use Rattle.text.proofs.Joined.{joined, same-text, keeps-length}
-use Rattle.fields.specs.Words as words
-use Rattle.fields.specs.Fields.{number, streamsText}
+use Rattle.labels.specs.Words as words
+use Rattle.labels.specs.Labels.{number}
+use Rattle.fields.specs.Fields.{streamsText}
 use Rattle.fields.proofs.put_streams.Statement.{statement}
 use Rattle.fields.proofs.put_streams.Tie as tie
 
@@ -13,44 +14,32 @@ slice-aggregate-put-source c = search needs
 put-source-requires : tie.Need-put-source-requires
 put-source-requires c κs = search needs
 
-slice-aggregate-put-number : tie.Need-slice-aggregate-put-number
-slice-aggregate-put-number c = search needs
+slice-aggregate-put-u16 : tie.Need-slice-aggregate-put-u16
+slice-aggregate-put-u16 c = search needs
 
-cast-put-number : tie.Need-cast-put-number
-cast-put-number c = search needs
+put-u16-requires : tie.Need-put-u16-requires
+put-u16-requires c κs = search needs
 
-put-number-requires : tie.Need-put-number-requires
-put-number-requires c κs = search needs
+slice-aggregate-put-u16-2 : tie.Need-slice-aggregate-put-u16-2
+slice-aggregate-put-u16-2 c = search needs
 
-slice-aggregate-put-number-2 : tie.Need-slice-aggregate-put-number-2
-slice-aggregate-put-number-2 c = search needs
+put-u16-requires-2 : tie.Need-put-u16-requires-2
+put-u16-requires-2 c κs = search needs
 
-cast-put-number-2 : tie.Need-cast-put-number-2
-cast-put-number-2 c = search needs
-
-put-number-requires-2 : tie.Need-put-number-requires-2
-put-number-requires-2 c κs = search needs
-
-slice-aggregate-put-number-3 : tie.Need-slice-aggregate-put-number-3
-slice-aggregate-put-number-3 c = search needs
+slice-aggregate-put-u16-3 : tie.Need-slice-aggregate-put-u16-3
+slice-aggregate-put-u16-3 c = search needs
 
 packets-covered-requires : tie.Need-packets-covered-requires
 packets-covered-requires c κs = search needs
 
-cast-put-number-3 : tie.Need-cast-put-number-3
-cast-put-number-3 c = search needs
+put-u16-requires-3 : tie.Need-put-u16-requires-3
+put-u16-requires-3 c κs = search needs
 
-put-number-requires-3 : tie.Need-put-number-requires-3
-put-number-requires-3 c κs = search needs
+slice-aggregate-put-u32 : tie.Need-slice-aggregate-put-u32
+slice-aggregate-put-u32 c = search needs
 
-slice-aggregate-put-number-4 : tie.Need-slice-aggregate-put-number-4
-slice-aggregate-put-number-4 c = search needs
-
-cast-put-number-4 : tie.Need-cast-put-number-4
-cast-put-number-4 c = search needs
-
-put-number-requires-4 : tie.Need-put-number-requires-4
-put-number-requires-4 c κs = search needs
+put-u32-requires : tie.Need-put-u32-requires
+put-u32-requires c κs = search needs
 
 slice-aggregate-put : tie.Need-slice-aggregate-put
 slice-aggregate-put c = search needs
@@ -70,11 +59,12 @@ returns c =
     (joined _ _ _ _ _ _ _ _
     (joined _ _ _ _ _ _ _ _
     (joined _ _ _ _ _ _ _ _
-    (c .before .before .before .before .before .before .before .before .before .before .before .before .before .before .before .before .before .before .before .before .before .before .before .before .before .before .before .before .before .before .before .before .before .before .before .put-source .ensures)
-    (c .before .before .before .before .before .before .before .before .before .before .before .before .before .before .before .before .before .before .before .before .before .before .before .before .before .before .before .before .before .put-number .ensures))
-    (c .before .before .before .before .before .before .before .before .before .before .before .before .before .before .before .before .before .before .before .before .before .before .before .put-number2 .ensures))
-    (same-text _ _ _ _ _ _ (ap (number words.packets) (c .before .before .before .before .before .before .before .before .before .before .before .before .before .before .before .before .before .before .packets-covered .ensures))
-    (c .before .before .before .before .before .before .before .before .before .before .before .before .before .before .before .before .before .put-number3 .ensures))) (c .before .before .before .before .before .before .before .before .before .before .before .put-number4 .ensures))
+    (c .before .before .before .before .before .before .before .before .before .before .before .before .before .before .before .before .before .before .before .before .before .before .before .before .before .before .before .before .before .before .before .before .put-source .ensures)
+    (c .before .before .before .before .before .before .before .before .before .before .before .before .before .before .before .before .before .before .before .before .before .before .before .before .before .before .before .put-u16 .ensures))
+    (c .before .before .before .before .before .before .before .before .before .before .before .before .before .before .before .before .before .before .before .before .before .before .put-u162 .ensures))
+    (same-text _ _ _ _ _ _ (ap (number words.packets) (c .before .before .before .before .before .before .before .before .before .before .before .before .before .before .before .before .before .packets-covered .ensures))
+    (c .before .before .before .before .before .before .before .before .before .before .before .before .before .before .before .before .put-u163 .ensures)))
+    (c .before .before .before .before .before .before .before .before .before .before .before .put-u32 .ensures))
     (c .before .before .before .before .before .before .put .ensures))
     (c .before .before .put-counts .ensures)
 
@@ -87,19 +77,15 @@ put-streams-spec =
     (tie.spec
     slice-aggregate-put-source
     put-source-requires
-    slice-aggregate-put-number
-    cast-put-number
-    put-number-requires
-    slice-aggregate-put-number-2
-    cast-put-number-2
-    put-number-requires-2
-    slice-aggregate-put-number-3
+    slice-aggregate-put-u16
+    put-u16-requires
+    slice-aggregate-put-u16-2
+    put-u16-requires-2
+    slice-aggregate-put-u16-3
     packets-covered-requires
-    cast-put-number-3
-    put-number-requires-3
-    slice-aggregate-put-number-4
-    cast-put-number-4
-    put-number-requires-4
+    put-u16-requires-3
+    slice-aggregate-put-u32
+    put-u32-requires
     slice-aggregate-put
     put-requires
     put-counts-requires
