@@ -118,5 +118,5 @@ fn put_u16(page: &mut [u8], at: usize, label: &[u8], n: u16) -> usize
     ensures answer { λ r. ⌜ r ≡ endAt (now (page .entry)) at (number (now (label .entry)) n) ⌝ }
     ensures buffer { λ r. ⌜ now (page .exit) ≡ placed (now (page .entry)) at (number (now (label .entry)) n) ⌝ }
 {
-    put_number(page, at, label, n as u64)
+    put_u32(page, at, label, n as u32)
 }
