@@ -1,11 +1,11 @@
 #!/usr/bin/env python3
-"""Runs each program of worked cases on its file stdin and compares what it writes with text computed by tests/document01.py.
+"""Runs the worked cases, cases/*.txt, by the Rust example `cases`, and compares what it writes with text computed by
+tests/document01.py.
 
-Run in the repository's root after `rt check`. Prints each line that differs and exits with
-status 1, or one line for each program. `--print NAME` writes the text computed for one program instead, which need not be there.
-A case is a word, its numbers and its data (NUMBERS below); a line that is empty or a comment is copied.
+Run in the repository's root after tools/archive.sh. Prints each line that differs and exits with status 1, or one line for each
+file. `--print FILE` writes the text computed for one file instead, for which the example is not needed. A case is a word, its
+numbers and its data (NUMBERS below); a line that is empty or a comment is copied.
 """
-import os
 import pathlib
 import subprocess
 import sys
@@ -14,23 +14,15 @@ sys.dont_write_bytecode = True  # a run leaves no files in the tree
 import document01
 from document01 import Refused
 
-PROGRAMS = pathlib.Path(os.environ.get("PROGRAMS", "target/bin"))
-MOST_TEXT = 65536
+PROGRAM = ["cargo", "run", "--offline", "--quiet", "--example", "cases"]
 SHOWN_BYTES, SHOWN_ENTRIES = 64, 16
 HELD = 7  # what each lent byte or entry holds before the call
 
 # The greatest number that a field holds, by the field's name; any other field holds 32 bits.
 LIMITS = {"type": 255, "specific": 255, "flag": 255, "packet": 255, "first": 65535, "begin": 65535, "end": 65535,
-          "burst": 65535, "gap": 65535, "mean": 65535, "var": 65535, "index": 65535, "LEN": 262144, "PACKETS": 65600,
-          "MARKS": 65600, "ROOM": 1024, "ENTRIES": 1024}
+          "burst": 65535, "gap": 65535, "mean": 65535, "var": 65535, "index": 65535, "LEN": 262144, "ROOM": 262144,
+          "ENTRIES": 262144}
 TALLY = "event gmin spacing E L Eb Lb n S Q events packets since"
-# The words of each program.
-WORDS = {
-    "packet_cases": ("read", "block", "body", "list", "alone"),
-    "adding_cases": ("new", "add14", "add17", "add18", "add240", "add241"),
-    "trace_cases": ("card", "write", "figures", "loss", "plan"),
-    "tally_cases": ("tally", "close", "take"),
-}
 # The fields of each word, then the kind of its data, if it takes any.
 NUMBERS = {
     "read": ("LEN", "bytes"), "block": ("k LEN", "bytes"), "body": ("k LEN", "bytes"), "list": ("ENTRIES LEN", "bytes"),
@@ -40,9 +32,9 @@ NUMBERS = {
     "add240": ("source index LEN", "bytes"),
     "add241": ("source begin end streams c1 c2 c3 c4 c5 c6 c7 c8 LEN", "bytes"),
     "card": ("", "card"), "write": ("gmin batch threshold spacing ROOM", None),
-    "figures": ("event gmin spacing PACKETS", "trace"), "tally": ("event gmin spacing PACKETS", "trace"),
+    "figures": ("event gmin spacing LEN", "trace"), "tally": ("event gmin spacing LEN", "trace"),
     "close": (TALLY, None), "take": (TALLY + " packet", None),
-    "loss": ("B T PACKETS", "trace"), "plan": ("B T MARKS PACKETS", "trace"),
+    "loss": ("B T LEN", "trace"), "plan": ("B T ROOM LEN", "trace"),
 }
 # Type, whether a flag comes first, where the rates stand, and the words after the first as struct has them.
 LAYOUTS = {"add14": (14, False, (), "I2xHIIIII"), "add17": (17, True, (2, 3), "IHHHH"), "add18": (18, True, (2, 3), "IHH"),
@@ -58,10 +50,10 @@ def no_case_if(condition):
         raise NoCase
 
 
-def parsed(line, words):
-    """The word, which has to be one of these, its numbers and its data as bytes."""
+def parsed(line):
+    """The word, its numbers and its data as bytes."""
     word, *rest = line.split(" ", 1)
-    no_case_if(word not in words)
+    no_case_if(word not in NUMBERS)
     fields, kind = NUMBERS[word]
     numbers = []
     for field in fields.split():
@@ -168,9 +160,9 @@ def asking(word, numbers, data):
     return "taken " + " ".join(str(count) for count in document01.take(*numbers[:3], numbers[3:13], numbers[13]))
 
 
-def answer(line, words):
+def answer(line):
     try:
-        word, numbers, data = parsed(line, words)
+        word, numbers, data = parsed(line)
         if word in LAYOUTS or word in ("new", "write", "list", "plan"):
             return lending(word, numbers, data)
         return asking(word, numbers, data)
@@ -184,25 +176,20 @@ def is_case(line):
     return line != "" and not line.startswith("#")
 
 
-def computed(text, words):
-    """What a program with these words has to write for this text, line by line."""
-    if len(text) > MOST_TEXT:
-        return ["too long"]
+def computed(text):
+    """What has to be written for this text, line by line."""
     lines = []
     for line in text.decode("latin-1").removesuffix("\n").split("\n"):
         lines.append(line)
         if is_case(line):
-            lines.append("  " + answer(line, words))
+            lines.append("  " + answer(line))
     return lines
 
 
 def compare(name, text, expected):
-    """Whether the program writes this text."""
-    program = PROGRAMS / name
-    if not program.exists():
-        print(f"{name}: {program} is not there; `rt check {name}` makes it")
-        return False
-    ours = subprocess.run([program], input=text, stdout=subprocess.PIPE, check=True).stdout.decode("latin-1").split("\n")
+    """Whether the example writes this text."""
+    run = subprocess.run(PROGRAM, cwd="rust", input=text, stdout=subprocess.PIPE, check=True)
+    ours = run.stdout.decode("latin-1").split("\n")
     wanted = expected + [""]  # the text ends in a newline
     cases = different = 0
     for at in range(max(len(ours), len(wanted))):
@@ -222,13 +209,13 @@ def compare(name, text, expected):
 
 
 def main():
-    texts = {name: pathlib.Path("crates", name, "stdin").read_bytes() for name in WORDS}
     if sys.argv[1:2] == ["--print"]:
-        name = sys.argv[2]
-        sys.stdout.write("\n".join(computed(texts[name], WORDS[name])) + "\n")
+        sys.stdout.write("\n".join(computed(pathlib.Path(sys.argv[2]).read_bytes())) + "\n")
         return 0
-    good = [compare(name, text, computed(text, WORDS[name])) for name, text in texts.items()]
-    return 0 if all(good) else 1
+    files = sorted(pathlib.Path("cases").glob("*.txt"))
+    texts = [(path.name, path.read_bytes()) for path in files]
+    good = [compare(name, text, computed(text)) for name, text in texts]
+    return 0 if good and all(good) else 1
 
 
 if __name__ == "__main__":

@@ -5,6 +5,8 @@ use card::CardRead;
 use libc::STDOUT_FILENO;
 use refusal::Refusal;
 use settings::Settings;
+ghost use Prim.Native.Nat.{_≤_};
+ghost use lib.ListN.{length};
 
 fn main() {
     let mut buffer = [0u8; 65_537];
@@ -20,10 +22,25 @@ fn main() {
 fn list(input: &[u8]) {
     let mut start = 0;
     while start < input.len() {
-        let end = script::end_of(input, start, b'\n');
+        let end = line_end(input, start);
         show(&input[start..end]);
         start = end + 1;
     }
+}
+
+// Where the line that starts at start ends: at its newline, or at the end of the input.
+fn line_end(input: &[u8], start: usize) -> usize
+    requires { ⌜ start ≤ length (now input) ⌝ }
+    ensures { λ r. ⌜ (start ≤ r) × (r ≤ length (now (input .entry))) ⌝ }
+{
+    let mut i = start;
+    while i < input.len() {
+        if input[i] == b'\n' {
+            return i;
+        }
+        i += 1;
+    }
+    i
 }
 
 fn show(line: &[u8]) {

@@ -15,8 +15,8 @@ abbrev μ-loop : tie.MeasureT-loop
 loop-holds : tie.Need-loop-holds Inv-loop μ-loop
 loop-holds c = omega arith
 
-end-of-requires : tie.Need-end-of-requires Inv-loop μ-loop
-end-of-requires c κs = search needs
+line-end-requires : tie.Need-line-end-requires Inv-loop μ-loop
+line-end-requires c κs = omega arith
 
 sub-show : tie.Need-sub-show Inv-loop μ-loop
 sub-show c = omega arith
@@ -49,7 +49,7 @@ list-spec =
     Inv-loop
     μ-loop
     loop-holds
-    end-of-requires
+    line-end-requires
     sub-show
     part-show-start
     part-show-end

@@ -1,0 +1,206 @@
+//! What the library answers to each case. A number that its field cannot hold is no case.
+
+use crate::line::Case;
+use crate::shown;
+use nuvaskoe::block::{self, Block, Discard, EffectiveLoss, Loss, Measurement, TransportStream};
+use nuvaskoe::card::{self, Settings};
+use nuvaskoe::tally::{Stretch, Sums, Tally};
+use nuvaskoe::trace::Event;
+use nuvaskoe::values::{EffectiveIndex, Figure, Rate};
+use nuvaskoe::{effective, figures, packet, resend, Refusal};
+
+/// What a lent byte or entry holds before the call.
+const HELD: u8 = 7;
+
+/// The answer of a case; none where a number does not fit.
+pub fn answer(case: &Case) -> Option<String> {
+    let (n, data) = (&case.numbers[..], &case.data[..]);
+    Some(match case.word {
+        "read" => shown::or_refused(packet::read(data), |packet| {
+            format!("ssrc {:08x} blocks {}", packet.sender, packet.blocks)
+        }),
+        "block" => shown::or_refused(packet::block(data, n[0] as usize), |reading| {
+            shown::line(n[0], &reading, packet::body(data, n[0] as usize).len())
+        }),
+        "body" => body(n[0], data),
+        "list" => list(n[0], data),
+        "alone" => {
+            let (block_type, specific) = (u8::try_from(n[0]).ok()?, u8::try_from(n[1]).ok()?);
+            shown::line(0, &block::read(block_type, specific, data), data.len())
+        }
+        "new" => lending(n[1], |lent| packet::new(n[0], lent)),
+        "card" => shown::or_refused(card::read(data), |set| {
+            let (gmin, batch, threshold) = (set.gmin, set.batch, set.threshold);
+            format!(
+                "gmin {gmin} batch {batch} threshold {threshold} spacing {}",
+                set.spacing
+            )
+        }),
+        "write" => lending(n[4], |lent| card::write(settings(n), lent)),
+        "loss" | "plan" => batches(case.word, n, data),
+        "figures" | "tally" | "close" | "take" => measured(case.word, n, data)?,
+        _ => adding(case.word, n, data)?,
+    })
+}
+
+fn settings(n: &[u32]) -> Settings {
+    Settings {
+        gmin: n[0],
+        batch: n[1],
+        threshold: n[2],
+        spacing: n[3],
+    }
+}
+
+/// A call that fills lent bytes from the front.
+fn lending(room: u32, call: impl FnOnce(&mut [u8]) -> Result<usize, Refusal>) -> String {
+    let mut lent = vec![HELD; room as usize];
+    let answer = shown::or_refused(call(&mut lent), |size| format!("size {size}"));
+    answer + &shown::bytes(&lent)
+}
+
+/// Where a body stands in its packet.
+fn body(index: u32, packet: &[u8]) -> String {
+    let body = packet::body(packet, index as usize);
+    let at = body.as_ptr() as usize - packet.as_ptr() as usize;
+    format!("body at {at} bytes {}", body.len())
+}
+
+fn list(entries: u32, packet: &[u8]) -> String {
+    let mut lent = vec![u32::from(HELD); entries as usize];
+    let answer = packet::list(packet, &mut lent);
+    shown::or_refused(answer, |written| format!("entries {written}")) + &shown::table(&lent)
+}
+
+fn batches(word: &str, n: &[u32], trace: &[u8]) -> String {
+    if word == "plan" {
+        let mut lent = vec![HELD; n[2] as usize];
+        let answer = resend::plan(trace, n[0], n[1], &mut lent);
+        return shown::or_refused(answer, |marks| format!("marks {marks}")) + &shown::plan(&lent);
+    }
+    shown::or_refused(effective::effective_loss(trace, n[0], n[1]), |loss| {
+        let first = loss
+            .first
+            .map_or("none".to_string(), |first| first.to_string());
+        let (over, batches, index) = (loss.over, loss.batches, loss.index);
+        format!("over {over} of {batches} index {index} first {first}")
+    })
+}
+
+/// Figures of a trace, by one call or by a tally, and tallies made of their numbers. The first
+/// number is the event.
+fn measured(word: &str, n: &[u32], trace: &[u8]) -> Option<String> {
+    let event = match n[0] {
+        1 => Event::Lost,
+        2 => Event::Discarded,
+        _ => return None,
+    };
+    let answer = match word {
+        "figures" => figures::of_trace(trace, n[1], n[2], event),
+        "tally" => tallied(n[1], n[2], event, trace),
+        "close" => tally(n, event).close(),
+        _ => {
+            let (next, answer) = tally(n, event).take(u8::try_from(n[13]).ok()?);
+            return Some(shown::or_refused(answer, |()| taken(&next)));
+        }
+    };
+    Some(shown::or_refused(answer, shown::figures))
+}
+
+/// A tally opened, given each packet in turn, and closed; the first refusal ends it.
+fn tallied(
+    gmin: u32,
+    spacing: u32,
+    event: Event,
+    trace: &[u8],
+) -> Result<figures::Figures, Refusal> {
+    let mut tally = Tally::open(gmin, spacing, event)?;
+    for packet in trace {
+        let (next, answer) = tally.take(*packet);
+        answer?;
+        tally = next;
+    }
+    tally.close()
+}
+
+fn tally(n: &[u32], event: Event) -> Tally {
+    let count = |place: usize| u64::from(n[place]);
+    let mut sums = Sums::default();
+    (sums.packets, sums.events) = (count(3), count(4));
+    (sums.burst_packets, sums.burst_events) = (count(5), count(6));
+    (sums.bursts, sums.durations, sums.squares) = (count(7), count(8), count(9));
+    let stretch = Stretch {
+        events: count(10),
+        packets: count(11),
+        since: count(12),
+    };
+    Tally::from_parts(n[1], n[2], event, sums, stretch)
+}
+
+fn taken(tally: &Tally) -> String {
+    let (sums, open) = (&tally.sums, &tally.stretch);
+    let bursts = [
+        sums.burst_packets,
+        sums.burst_events,
+        sums.bursts,
+        sums.durations,
+        sums.squares,
+    ];
+    let counts = [
+        &[sums.packets, sums.events],
+        &bursts[..],
+        &[open.events, open.packets, open.since],
+    ];
+    let counts = counts
+        .concat()
+        .iter()
+        .map(|count| format!(" {count}"))
+        .collect::<String>();
+    format!("taken{counts}")
+}
+
+/// A block added to the packet at the front of the data.
+fn adding(word: &str, n: &[u32], data: &[u8]) -> Option<String> {
+    let short = |place: usize| u16::try_from(n[place]).ok();
+    let rate = |place: usize| short(place).map(Rate);
+    let flag = || u8::try_from(n[0]).ok();
+    let block = match word {
+        "add14" => Block::Measurement(Measurement {
+            source: n[0],
+            first: short(1)?,
+            extended_first: n[2],
+            extended_last: n[3],
+            interval: n[4],
+            seconds: n[5],
+            fraction: n[6],
+        }),
+        "add17" => Block::Loss(Loss {
+            flag: flag()?,
+            source: n[1],
+            burst_rate: rate(2)?,
+            gap_rate: rate(3)?,
+            mean: Figure(short(4)?),
+            variance: Figure(short(5)?),
+        }),
+        "add18" => Block::Discard(Discard {
+            flag: flag()?,
+            source: n[1],
+            burst_rate: rate(2)?,
+            gap_rate: rate(3)?,
+        }),
+        "add240" => Block::EffectiveLoss(EffectiveLoss {
+            source: n[0],
+            index: EffectiveIndex(short(1)?),
+        }),
+        _ => Block::TransportStream(TransportStream {
+            source: n[0],
+            begin: short(1)?,
+            end: short(2)?,
+            streams: n[3],
+            counts: n[4..12].try_into().expect("eight counts"),
+        }),
+    };
+    let mut buffer = data.to_vec();
+    let answer = packet::add(&mut buffer, &block);
+    Some(shown::or_refused(answer, |size| format!("size {size}")) + &shown::bytes(&buffer))
+}

@@ -1,0 +1,119 @@
+//! A line of worked cases taken apart: a word, its numbers and its data.
+
+/// The most bytes, packets or entries of a case: the bytes of the longest packet.
+const MOST: u32 = 262_144;
+
+/// What follows the numbers. The last number is the size of bytes and of a trace.
+#[derive(Clone, Copy, PartialEq)]
+enum Data {
+    Nothing,
+    Bytes,
+    Trace,
+    Text,
+}
+
+/// Each word, how many numbers it takes, which of them are sizes, and its data.
+const WORDS: [(&str, usize, &[usize], Data); 19] = [
+    ("read", 1, &[0], Data::Bytes),
+    ("block", 2, &[1], Data::Bytes),
+    ("body", 2, &[1], Data::Bytes),
+    ("list", 2, &[0, 1], Data::Bytes),
+    ("alone", 3, &[2], Data::Bytes),
+    ("new", 2, &[1], Data::Nothing),
+    ("add14", 8, &[7], Data::Bytes),
+    ("add17", 7, &[6], Data::Bytes),
+    ("add18", 5, &[4], Data::Bytes),
+    ("add240", 3, &[2], Data::Bytes),
+    ("add241", 13, &[12], Data::Bytes),
+    ("card", 0, &[], Data::Text),
+    ("write", 5, &[4], Data::Nothing),
+    ("figures", 4, &[3], Data::Trace),
+    ("tally", 4, &[3], Data::Trace),
+    ("close", 13, &[], Data::Nothing),
+    ("take", 14, &[], Data::Nothing),
+    ("loss", 3, &[2], Data::Trace),
+    ("plan", 4, &[2, 3], Data::Trace),
+];
+
+/// A case, or none where the line is none.
+pub struct Case {
+    pub word: &'static str,
+    pub numbers: Vec<u32>,
+    pub data: Vec<u8>,
+}
+
+impl Case {
+    pub fn read(line: &[u8]) -> Option<Case> {
+        let (front, mut rest) = cut(line);
+        let known = WORDS.iter().find(|(word, ..)| word.as_bytes() == front);
+        let &(word, count, sizes, kind) = known?;
+        let mut numbers = Vec::new();
+        for place in 0..count {
+            let (digits, behind) = cut(rest?);
+            let number = decimal(digits)?;
+            if sizes.contains(&place) && number > MOST {
+                return None;
+            }
+            numbers.push(number);
+            rest = behind;
+        }
+        if rest.is_some_and(|text| text.is_empty() || kind == Data::Nothing) {
+            return None;
+        }
+        let text = rest.unwrap_or_default();
+        let mut data = match kind {
+            Data::Nothing | Data::Text => text.to_vec(),
+            Data::Bytes => hexadecimal(text)?,
+            Data::Trace => text
+                .iter()
+                .map(|digit| decimal_digit(*digit))
+                .collect::<Option<_>>()?,
+        };
+        if matches!(kind, Data::Bytes | Data::Trace) {
+            let size = *numbers.last()? as usize;
+            if size < data.len() {
+                return None;
+            }
+            data.resize(size, 0);
+        }
+        Some(Case {
+            word,
+            numbers,
+            data,
+        })
+    }
+}
+
+/// The text before the first space, and what follows it.
+fn cut(text: &[u8]) -> (&[u8], Option<&[u8]>) {
+    match text.iter().position(|byte| *byte == b' ') {
+        Some(at) => (&text[..at], Some(&text[at + 1..])),
+        None => (text, None),
+    }
+}
+
+fn decimal_digit(digit: u8) -> Option<u8> {
+    digit.is_ascii_digit().then(|| digit - b'0')
+}
+
+fn decimal(digits: &[u8]) -> Option<u32> {
+    let mut number = 0u32;
+    for digit in digits {
+        let digit = decimal_digit(*digit)?.into();
+        number = number.checked_mul(10)?.checked_add(digit)?;
+    }
+    (!digits.is_empty()).then_some(number)
+}
+
+/// Two lower-case digits a byte.
+fn hexadecimal(text: &[u8]) -> Option<Vec<u8>> {
+    let digit = |byte: u8| match byte {
+        b'a'..=b'f' => Some(byte - b'a' + 10),
+        _ => decimal_digit(byte),
+    };
+    let pairs = text.chunks(2).map(|pair| match *pair {
+        [high, low] => Some(digit(high)? * 16 + digit(low)?),
+        _ => None,
+    });
+    pairs.collect()
+}

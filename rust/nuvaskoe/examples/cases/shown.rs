@@ -1,0 +1,83 @@
+//! Answers as the text of worked cases has them.
+
+use nuvaskoe::block::{Block, Reading, Verdict};
+use nuvaskoe::figures::Figures;
+use nuvaskoe::Refusal;
+
+/// The most bytes or marks, and the most entries, that are shown.
+const BYTES: usize = 64;
+const ENTRIES: usize = 16;
+
+/// An answer, or the refusal alone.
+pub fn or_refused<T>(answer: Result<T, Refusal>, text: impl FnOnce(T) -> String) -> String {
+    answer.map_or_else(
+        |refusal| format!("refused {} at {}", refusal.number(), refusal.place),
+        text,
+    )
+}
+
+pub fn bytes(lent: &[u8]) -> String {
+    let front = lent.iter().take(BYTES);
+    labelled("bytes", front.map(|byte| format!("{byte:02x}")).collect())
+}
+
+pub fn plan(lent: &[u8]) -> String {
+    let front = lent.iter().take(BYTES);
+    labelled("plan", front.map(u8::to_string).collect())
+}
+
+pub fn table(lent: &[u32]) -> String {
+    let front: Vec<_> = lent.iter().take(ENTRIES).map(u32::to_string).collect();
+    labelled("table", front.join(" "))
+}
+
+/// The word ends the line where nothing follows it.
+fn labelled(word: &str, text: String) -> String {
+    format!(" {word} {text}").trim_end().to_string()
+}
+
+pub fn figures(figures: Figures) -> String {
+    let (burst, gap) = (figures.burst_rate, figures.gap_rate);
+    let (mean, variance) = (figures.mean, figures.variance);
+    format!("burst {burst} gap {gap} mean {mean} var {variance}")
+}
+
+/// The listing's line of block number `index`.
+pub fn line(index: u32, reading: &Reading, size: usize) -> String {
+    let kind = reading.block_type;
+    let text = match &reading.verdict {
+        Verdict::Typed(block) => typed(block),
+        Verdict::Unknown => format!("unknown type {kind} bytes {size}"),
+        Verdict::Dropped(_) => {
+            let reason = reading.verdict.number();
+            format!("dropped type {kind} reason {reason}")
+        }
+        other => unreachable!("{other:?}"),
+    };
+    format!("{index} {text}")
+}
+
+fn typed(block: &Block) -> String {
+    match block {
+        Block::Measurement(m) => format!(
+            "meas source {:08x} first {} efirst {} elast {} interval {} seconds {} fraction {}",
+            m.source, m.first, m.extended_first, m.extended_last, m.interval, m.seconds, m.fraction
+        ),
+        Block::Loss(l) => format!(
+            "loss source {:08x} i {} burst {} gap {} mean {} var {}",
+            l.source, l.flag, l.burst_rate, l.gap_rate, l.mean, l.variance
+        ),
+        Block::Discard(d) => format!(
+            "discard source {:08x} i {} burst {} gap {}",
+            d.source, d.flag, d.burst_rate, d.gap_rate
+        ),
+        Block::EffectiveLoss(e) => format!("eli source {:08x} index {}", e.source, e.index),
+        Block::TransportStream(t) => {
+            let (begin, end, packets, streams) = (t.begin, t.end, t.packets(), t.streams);
+            let counts = t.counts.map(|count| format!(" {count}")).concat();
+            let source = t.source;
+            format!("ts source {source:08x} begin {begin} end {end} packets {packets} streams {streams} counts{counts}")
+        }
+        other => unreachable!("{other:?}"),
+    }
+}
