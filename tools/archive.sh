@@ -8,11 +8,10 @@ crates=$(sed -n 's/^\(ffi_[a-z]*\):.*/\1/p' crates.txt)
 work=$(mktemp -d)
 trap 'rm -rf "$work"' EXIT
 rt check $crates >"$work/check.log" || { cat "$work/check.log"; exit 1; }
-make_one() {
-    rt staticlib "$1" >"$2/$1.log" 2>&1 || { cat "$2/$1.log"; exit 1; }
-}
-export -f make_one
-printf '%s\n' $crates | xargs -P 2 -I{} bash -c "make_one {} $work"
+# One after the other: two at once write the same files of the crates below them.
+for crate in $crates; do
+    rt staticlib "$crate" >"$work/$crate.log" 2>&1 || { cat "$work/$crate.log"; exit 1; }
+done
 
 root=$PWD
 for crate in $crates; do
