@@ -239,7 +239,7 @@ typedef struct nuvaskoe_measurement {
     uint32_t fraction; /* cumulative duration, its fraction */
 } nuvaskoe_measurement;
 
-/* Type 17, Burst/Gap Loss Summary Statistics: RFC 7004, section 3.1. I is the interval flag. */
+/* Type 17, Burst/Gap Loss Summary Statistics: RFC 7004, section 3.1. */
 typedef struct nuvaskoe_loss_summary {
     uint8_t flag; /* interval flag, 1 to 3 */
     uint32_t source;

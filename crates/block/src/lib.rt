@@ -73,7 +73,9 @@ pub struct Measurement {
     pub fraction: u32, // cumulative duration, its fraction
 }
 
-// Type 17, Burst/Gap Loss Summary Statistics: RFC 7004, section 3.1. I is the interval flag.
+// Type 17, Burst/Gap Loss Summary Statistics: RFC 7004, section 3.1.
+//
+// I is the interval flag.
 //
 //   0                   1                   2                   3
 //   0 1 2 3 4 5 6 7 8 9 0 1 2 3 4 5 6 7 8 9 0 1 2 3 4 5 6 7 8 9 0 1
