@@ -9,7 +9,6 @@ import textwrap
 WIDTH = 120
 NUMBERS = {"u8": "uint8_t", "u16": "uint16_t", "u32": "uint32_t", "u64": "uint64_t", "usize": "size_t"}
 KINDS = {"Measured": "MEASUREMENT", "Loss": "LOSS", "Discard": "DISCARD", "Effective": "EFFECTIVE", "Streams": "STREAMS"}
-REASONS = ["BAD_SIZE", "BAD_FLAG", "BAD_RATE", "UNMEASURED"]
 MADE = "Made by tools/boundary.py from the Rattle source; not edited by hand."
 
 
@@ -91,11 +90,11 @@ class Header:
 
     def _texts(self):
         refusals = [(f"NUVASKOE_REFUSAL_{name}", self.source.refusal_words[n]) for name, n in self.source.refusals]
-        reasons = [(f"NUVASKOE_VERDICT_{name}", self.source.reason_words[i + 1]) for i, name in enumerate(REASONS)]
+        reasons = [(f"NUVASKOE_VERDICT_{name}", words) for name, words in self.source.reasons]
         return "\n\n".join([
             switch("What went wrong, by a refusal's number.", "refusal_meaning", "number", [(n, w[0]) for n, w in refusals]),
             switch("What to do about it.", "refusal_advice", "number", [(n, w[1]) for n, w in refusals]),
-            switch("Why a block was dropped, by its verdict.", "reason_meaning", "verdict", [(n, w[0]) for n, w in reasons]),
+            switch("Why a block was dropped, by its verdict.", "reason_meaning", "verdict", reasons),
         ])
 
 

@@ -6,6 +6,9 @@ above an item belongs to it, up to its first empty line; a line `// C: NAME` in 
 import pathlib
 import re
 
+# The constants of crate block that number the reasons to drop a block.
+REASONS = ["BAD_SIZE", "BAD_FLAG", "BAD_RATE", "UNMEASURED"]
+
 
 class Struct:
     def __init__(self, name, c_name, text, fields):
@@ -29,7 +32,8 @@ class Source:
         self.refusals = self._refusals()
         readme = (root / "README.md").read_text()
         self.refusal_words = _table(readme, "| N | Meaning | What to do |")
-        self.reason_words = _table(readme, "| Reason | Meaning |")
+        reason_words = _table(readme, "| Reason | Meaning |")
+        self.reasons = [(name, reason_words[self.constant("block::" + name)[0]][0]) for name in REASONS]
         self.places = _places((root / "crates/ffi_block/specs/Answers.antt").read_text())
 
     def constant(self, expression):

@@ -1,7 +1,7 @@
 """rust/nuvaskoe/src/boundary.rs and refusals.rs from the Rattle source and the words of README's tables."""
 import re
 
-from c_header import MADE, NUMBERS, REASONS
+from c_header import MADE, NUMBERS
 
 LAYOUT = """/// C name and size of every struct, and the name, offset and size of each field.
 pub(crate) type Layout = (&'static str, usize, &'static [(&'static str, usize, usize)]);
@@ -109,7 +109,7 @@ def declared(source, call):
 def refusals_rs(source):
     """The kinds of refusal, their words and those of reasons."""
     rows = [(camel(name.lower()), n, source.refusal_words[n]) for name, n in source.refusals]
-    reasons = [(camel(name.lower()), source.reason_words[i + 1][0]) for i, name in enumerate(REASONS)]
+    reasons = [(camel(name.lower()), words) for name, words in source.reasons]
     parts = {
         "made": [MADE],
         "variants": [f"    /// {words[0][0].upper()}{words[0][1:]}.\n    {name} = {n}," for name, n, words in rows],
