@@ -6,7 +6,7 @@ use mathlib.Core.List.{List}
 use lib.ListN.{length}
 use Rattle.refusal.specs.declared.Refusal.{Refusal}
 use Rattle.trace.specs.declared.Event.{Event}
-use Rattle.trace.specs.declared.Judged.the-variants.{Accepted, Refused as Judged·Refused}
+use Rattle.refusal.specs.declared.Judged.the-variants.{Accepted, Refused as Judged·Refused}
 use Rattle.trace.specs.Trace.{countedIn}
 use Rattle.batch.specs.declared.EffectiveLoss.{EffectiveLoss}
 use Rattle.batch.specs.declared.LossRead.the-variants.{Loss, Refused}

@@ -7,14 +7,14 @@ use native.Mathlib.Omega.{arith}
 use borrow.Author.Tests.{leb-true, le-leb, lt-leb}
 use lib.Dec.{leb}
 use lib.ListN.{length}
-use Rattle.refusal.specs.Answer.{unless}
+use Rattle.refusal.specs.Answer.{unless, ifAccepted}
 use Rattle.refusal.specs.Table.{setting, batchLength}
 use Rattle.refusal.specs.declared.Refusal.{Refusal}
 use Rattle.settings.specs.Ranges.{batchInRange}
 use Rattle.settings.proofs.Bounds.{Batch, batch}
-use Rattle.trace.specs.declared.Judged.{Judged}
-use Rattle.trace.specs.declared.Judged.the-variants.{Accepted, Refused}
-use Rattle.trace.specs.Trace.{judged, ifAccepted}
+use Rattle.refusal.specs.declared.Judged.{Judged}
+use Rattle.refusal.specs.declared.Judged.the-variants.{Accepted, Refused}
+use Rattle.trace.specs.Trace.{judged}
 use Rattle.trace.specs.Laws.{Sound}
 use Rattle.trace.proofs.Judging.{accepted-sound}
 use Rattle.batch.specs.Judging.{judgedFor}

@@ -5,11 +5,11 @@ use mathlib.Core.List.{List}
 use lib.Dec.{leb}
 use lib.ListN.{length}
 use Rattle.refusal.specs.Table.{setting, batchLength}
-use Rattle.refusal.specs.Answer.{unless}
+use Rattle.refusal.specs.Answer.{unless, ifAccepted}
 use Rattle.settings.specs.Ranges.{batchInRange}
-use Rattle.trace.specs.declared.Judged.{Judged}
-use Rattle.trace.specs.declared.Judged.the-variants.{Accepted, Refused}
-use Rattle.trace.specs.Trace.{judged, ifAccepted}
+use Rattle.refusal.specs.declared.Judged.{Judged}
+use Rattle.refusal.specs.declared.Judged.the-variants.{Accepted, Refused}
+use Rattle.trace.specs.Trace.{judged}
 
 unfoldable pub judgedFor : List ℕ → ℕ → ℕ → Judged
 judgedFor s b t =

@@ -4,8 +4,9 @@ use Prim.Native.Nat.{ℕ, _*_, _/_}
 use mathlib.Core.Bool.{Bool}
 use mathlib.Core.List.{List}
 use lib.ListN.{length}
+use Rattle.refusal.specs.Answer.{ifAccepted}
 use Rattle.trace.specs.declared.Event.{Event}
-use Rattle.trace.specs.Trace.{countedIn, ifAccepted}
+use Rattle.trace.specs.Trace.{countedIn}
 use Rattle.batch.specs.declared.EffectiveLoss.{EffectiveLoss}
 use Rattle.batch.specs.declared.LossRead.{LossRead}
 use Rattle.batch.specs.declared.LossRead.the-variants.{Loss, Refused}

@@ -1,8 +1,8 @@
 // Effective loss: document 002 and document 01, "Effective loss". Batches are all runs of B consecutive packets;
 // the answer says how many of them lost more than T, and which is the first.
+use refusal::Judged;
 use refusal::Refusal;
 use trace::Event;
-use trace::Judged;
 ghost use mathlib.Core.Path.{_≡_};
 ghost use Prim.Native.Nat.{_+_, _-_, _≤_};
 ghost use lib.ListN.{length};

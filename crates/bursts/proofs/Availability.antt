@@ -9,10 +9,10 @@ use Rattle.refusal.specs.Table.{setting}
 use Rattle.refusal.specs.Answer.{unless}
 use Rattle.block.specs.Reading.{rateMax, unavailable}
 use Rattle.bursts.specs.declared.Sums.{Sums}
-use Rattle.bursts.specs.declared.Measured.the-variants.{Accepted, Refused}
+use Rattle.bursts.specs.declared.FiguresRead.the-variants.{Accepted, Refused}
 use Rattle.bursts.specs.Groups.{square}
 use Rattle.bursts.specs.Sums.{meanDuration, sumsSound}
-use Rattle.bursts.specs.Figures.{measureMax, overRange, rateOf, ranged, meanOf, varianceOf, figuresOf, measuredOf}
+use Rattle.bursts.specs.Figures.{measureMax, overRange, rateOf, ranged, meanOf, varianceOf, figuresOf, measureOf}
 use Rattle.bursts.specs.Laws.{Right, Figures-right}
 use Rattle.bursts.proofs.Soundness.{sound-of}
 use Rattle.bursts.proofs.Cases.{no-rate, some-rate, rate-small, over, within, no-mean, some-mean, no-variance, some-variance}
@@ -73,7 +73,7 @@ right s h =
     }
 
 pub figures-right : Figures-right
-unfolding measuredOf
+unfolding measureOf
 figures-right s f h = go (sumsSound s) refl h
   where
     go : (b : Bool) → sumsSound s ≡ b → unless b (Refused setting) (Accepted (figuresOf s)) ≡ Accepted f → Right s f

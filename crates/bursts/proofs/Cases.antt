@@ -8,10 +8,10 @@ use Rattle.refusal.specs.Table.{setting}
 use Rattle.block.specs.Reading.{rateMax, unavailable}
 use Rattle.bursts.specs.declared.Sums.{Sums}
 use Rattle.bursts.specs.declared.Figures.{Figures}
-use Rattle.bursts.specs.declared.Measured.the-variants.{Accepted, Refused}
+use Rattle.bursts.specs.declared.FiguresRead.the-variants.{Accepted, Refused}
 use Rattle.bursts.specs.Groups.{square}
 use Rattle.bursts.specs.Sums.{meanDuration, sumsSound}
-use Rattle.bursts.specs.Figures.{measureMax, overRange, rateOf, ranged, meanOf, varianceOf, figuresOf, measuredOf}
+use Rattle.bursts.specs.Figures.{measureMax, overRange, rateOf, ranged, meanOf, varianceOf, figuresOf, measureOf}
 
 pub no-rate : (events packets : ℕ) → packets ≡ 0 → unavailable ≡ rateOf events packets
 unfolding rateOf
@@ -53,10 +53,10 @@ module _ (s : Sums) where
     some-variance = rw (ne-eqb (s .bursts) 0 some)
 
 -- sums that are sound, and sums that are not
-pub refused : (s : Sums) → sumsSound s ≡ false → Refused setting ≡ measuredOf s
-unfolding measuredOf
+pub refused : (s : Sums) → sumsSound s ≡ false → Refused setting ≡ measureOf s
+unfolding measureOf
 refused s h = rw h
 
-pub accepted : (s : Sums) (f : Figures) → sumsSound s ≡ true → f ≡ figuresOf s → Accepted f ≡ measuredOf s
-unfolding measuredOf
+pub accepted : (s : Sums) (f : Figures) → sumsSound s ≡ true → f ≡ figuresOf s → Accepted f ≡ measureOf s
+unfolding measureOf
 accepted s f h e = rw (h, e)

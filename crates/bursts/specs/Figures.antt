@@ -7,8 +7,8 @@ use Rattle.refusal.specs.Answer.{unless}
 use Rattle.block.specs.Reading.{rateMax, unavailable}
 use Rattle.bursts.specs.declared.Sums.{Sums}
 use Rattle.bursts.specs.declared.Figures.{Figures}
-use Rattle.bursts.specs.declared.Measured.{Measured}
-use Rattle.bursts.specs.declared.Measured.the-variants.{Accepted, Refused}
+use Rattle.bursts.specs.declared.FiguresRead.{FiguresRead}
+use Rattle.bursts.specs.declared.FiguresRead.the-variants.{Accepted, Refused}
 use Rattle.bursts.specs.Groups.{square}
 use Rattle.bursts.specs.Sums.{meanDuration, sumsSound}
 
@@ -44,5 +44,5 @@ figuresOf s =
     }
 
 -- sums that are not sound are refused as a tally that is not
-unfoldable pub measuredOf : Sums → Measured
-measuredOf s = unless (sumsSound s) (Refused setting) (Accepted (figuresOf s))
+unfoldable pub measureOf : Sums → FiguresRead
+measureOf s = unless (sumsSound s) (Refused setting) (Accepted (figuresOf s))

@@ -5,8 +5,8 @@ use mathlib.Core.Logic.{_↔_, _⊎_}
 use Rattle.block.specs.Reading.{rateMax, unavailable}
 use Rattle.bursts.specs.declared.Sums.{Sums}
 use Rattle.bursts.specs.declared.Figures.{Figures}
-use Rattle.bursts.specs.declared.Measured.the-variants.{Accepted}
-use Rattle.bursts.specs.Figures.{overRange, measuredOf}
+use Rattle.bursts.specs.declared.FiguresRead.the-variants.{Accepted}
+use Rattle.bursts.specs.Figures.{overRange, measureOf}
 
 -- A figure is unavailable exactly where its denominator is 0, so one that could be measured is never sent as
 -- unavailable. A rate that is sent is at most 32,768; a mean or variance is at most the over-range mark.
@@ -21,4 +21,4 @@ pub record Right (s : Sums) (f : Figures) : Type 0 where
   pub variance-most : (f .«burst_variance» ≤ overRange) ⊎ (f .«burst_variance» ≡ unavailable)
 
 abbrev pub Figures-right : Type 0
-Figures-right = (s : Sums) (f : Figures) → measuredOf s ≡ Accepted f → Right s f
+Figures-right = (s : Sums) (f : Figures) → measureOf s ≡ Accepted f → Right s f

@@ -4,7 +4,7 @@
 use refusal::Refusal;
 ghost use mathlib.Core.Path.{_≡_};
 ghost use Rattle.bursts.specs.Sums.{countsSound, durationsSound, sumsSound};
-ghost use Rattle.bursts.specs.Figures.{rateOf, ranged, meanOf, varianceOf, measuredOf};
+ghost use Rattle.bursts.specs.Figures.{rateOf, ranged, meanOf, varianceOf, measureOf};
 ghost use Rattle.bursts.specs.Steps.{Rated, Spread};
 
 // What is summed over the packets so far: E, L, Eb, Lb, n, S and Q of document 01, in its order.
@@ -31,7 +31,7 @@ pub struct Figures {
 }
 
 // What sums give: their figures, or why none.
-pub enum Measured {
+pub enum FiguresRead {
     Accepted(Figures),
     Refused(Refusal),
 }
@@ -59,13 +59,13 @@ pub fn sound(s: Sums) -> bool
 }
 
 // The figures of sums.
-pub fn measure(s: Sums) -> Measured
-    ensures { λ r. ⌜ r ≡ measuredOf s ⌝ }
+pub fn measure(s: Sums) -> FiguresRead
+    ensures { λ r. ⌜ r ≡ measureOf s ⌝ }
 {
     if !sound(s) {
-        return Measured::Refused(refusal::SETTING);
+        return FiguresRead::Refused(refusal::SETTING);
     }
-    Measured::Accepted(Figures {
+    FiguresRead::Accepted(Figures {
         burst_rate: rate(s.burst_events, s.burst_packets),
         gap_rate: rate(s.events - s.burst_events, s.packets - s.burst_packets),
         burst_mean: mean(s),

@@ -11,8 +11,8 @@ use Rattle.trace.specs.declared.Event.{Event}
 use Rattle.trace.specs.declared.Event.the-variants.{Lost, Discarded}
 use Rattle.block.specs.Reading.{unavailable}
 use Rattle.bursts.specs.declared.Figures.{Figures}
-use Rattle.bursts.specs.declared.Measured.{Measured}
-use Rattle.bursts.specs.declared.Measured.the-variants.{Accepted, Refused}
+use Rattle.bursts.specs.declared.FiguresRead.{FiguresRead}
+use Rattle.bursts.specs.declared.FiguresRead.the-variants.{Accepted, Refused}
 use Rattle.figures.specs.Figures.{figuresIn}
 use Rattle.ffi_answer.specs.Answers.{none}
 use Rattle.ffi_figures.specs.declared.EventRead.{EventRead}
@@ -30,7 +30,7 @@ eventNumber Discarded = discarded
 abbrev pub noFigures : Figures
 noFigures = record { «burst_rate» = unavailable; «gap_rate» = unavailable; «burst_mean» = unavailable; «burst_variance» = unavailable }
 
-abbrev pub figuresOut : Measured → Figured
+abbrev pub figuresOut : FiguresRead → Figured
 figuresOut (Accepted f) = record { refusal = none; figures = f }
 figuresOut (Refused r) = record { refusal = r; figures = noFigures }
 

@@ -4,7 +4,7 @@ use block::DiscardSummary;
 use block::LossSummary;
 use block::UNAVAILABLE;
 use bursts::Figures;
-use bursts::Measured;
+use bursts::FiguresRead;
 use ffi_answer::NONE;
 use refusal::Refusal;
 use trace::Event;
@@ -45,15 +45,15 @@ pub fn event_in(number: u32) -> EventRead
     }
 }
 
-pub fn figures_out(m: Measured) -> Figured
+pub fn figures_out(m: FiguresRead) -> Figured
     ensures { λ r. ⌜ r ≡ figuresOut m ⌝ }
 {
     match m {
-        Measured::Accepted(figures) => Figured {
+        FiguresRead::Accepted(figures) => Figured {
             refusal: NONE,
             figures,
         },
-        Measured::Refused(refusal) => Figured {
+        FiguresRead::Refused(refusal) => Figured {
             refusal,
             figures: NO_FIGURES,
         },

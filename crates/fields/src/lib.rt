@@ -11,14 +11,14 @@ use labels::put_figure;
 use labels::put_number;
 use labels::put_source;
 ghost use mathlib.Core.Path.{_≡_};
-ghost use Rattle.text.specs.Page.{placed, endAt};
+ghost use Rattle.text.specs.Page.{putAt, endAt};
 ghost use Rattle.labels.specs.Labels.{number};
 ghost use Rattle.fields.specs.Fields.{measurementText, lossText, discardText, effectiveText, countsText, streamsText, typedText};
 
 // A typed block after its number.
 pub fn put_typed(page: &mut [u8], at: usize, block: Block) -> usize
     ensures answer { λ r. ⌜ r ≡ endAt (now (page .entry)) at (typedText block) ⌝ }
-    ensures buffer { λ r. ⌜ now (page .exit) ≡ placed (now (page .entry)) at (typedText block) ⌝ }
+    ensures buffer { λ r. ⌜ now (page .exit) ≡ putAt (now (page .entry)) at (typedText block) ⌝ }
 {
     match block {
         Block::Measured(m) => put_measurement(page, at, m),
@@ -31,7 +31,7 @@ pub fn put_typed(page: &mut [u8], at: usize, block: Block) -> usize
 
 fn put_measurement(page: &mut [u8], at: usize, m: Measurement) -> usize
     ensures answer { λ r. ⌜ r ≡ endAt (now (page .entry)) at (measurementText m) ⌝ }
-    ensures buffer { λ r. ⌜ now (page .exit) ≡ placed (now (page .entry)) at (measurementText m) ⌝ }
+    ensures buffer { λ r. ⌜ now (page .exit) ≡ putAt (now (page .entry)) at (measurementText m) ⌝ }
 {
     let a = put_source(page, at, b" meas source ", m.source);
     let b = put_u16(page, a, b" first ", m.first);
@@ -44,7 +44,7 @@ fn put_measurement(page: &mut [u8], at: usize, m: Measurement) -> usize
 
 fn put_loss(page: &mut [u8], at: usize, l: LossSummary) -> usize
     ensures answer { λ r. ⌜ r ≡ endAt (now (page .entry)) at (lossText l) ⌝ }
-    ensures buffer { λ r. ⌜ now (page .exit) ≡ placed (now (page .entry)) at (lossText l) ⌝ }
+    ensures buffer { λ r. ⌜ now (page .exit) ≡ putAt (now (page .entry)) at (lossText l) ⌝ }
 {
     let a = put_source(page, at, b" loss source ", l.source);
     let b = put_u16(page, a, b" i ", l.flag as u16);
@@ -56,7 +56,7 @@ fn put_loss(page: &mut [u8], at: usize, l: LossSummary) -> usize
 
 fn put_discard(page: &mut [u8], at: usize, d: DiscardSummary) -> usize
     ensures answer { λ r. ⌜ r ≡ endAt (now (page .entry)) at (discardText d) ⌝ }
-    ensures buffer { λ r. ⌜ now (page .exit) ≡ placed (now (page .entry)) at (discardText d) ⌝ }
+    ensures buffer { λ r. ⌜ now (page .exit) ≡ putAt (now (page .entry)) at (discardText d) ⌝ }
 {
     let a = put_source(page, at, b" discard source ", d.source);
     let b = put_u16(page, a, b" i ", d.flag as u16);
@@ -66,7 +66,7 @@ fn put_discard(page: &mut [u8], at: usize, d: DiscardSummary) -> usize
 
 fn put_effective(page: &mut [u8], at: usize, e: EffectiveLoss) -> usize
     ensures answer { λ r. ⌜ r ≡ endAt (now (page .entry)) at (effectiveText e) ⌝ }
-    ensures buffer { λ r. ⌜ now (page .exit) ≡ placed (now (page .entry)) at (effectiveText e) ⌝ }
+    ensures buffer { λ r. ⌜ now (page .exit) ≡ putAt (now (page .entry)) at (effectiveText e) ⌝ }
 {
     let a = put_source(page, at, b" eli source ", e.source);
     put_u16(page, a, b" index ", e.index)
@@ -74,7 +74,7 @@ fn put_effective(page: &mut [u8], at: usize, e: EffectiveLoss) -> usize
 
 fn put_streams(page: &mut [u8], at: usize, t: StreamCounts) -> usize
     ensures answer { λ r. ⌜ r ≡ endAt (now (page .entry)) at (streamsText t) ⌝ }
-    ensures buffer { λ r. ⌜ now (page .exit) ≡ placed (now (page .entry)) at (streamsText t) ⌝ }
+    ensures buffer { λ r. ⌜ now (page .exit) ≡ putAt (now (page .entry)) at (streamsText t) ⌝ }
 {
     let a = put_source(page, at, b" ts source ", t.source);
     let b = put_u16(page, a, b" begin ", t.begin);
@@ -93,7 +93,7 @@ fn put_streams(page: &mut [u8], at: usize, t: StreamCounts) -> usize
 // The eight counts, in document 004's order.
 fn put_counts(page: &mut [u8], at: usize, t: StreamCounts) -> usize
     ensures answer { λ r. ⌜ r ≡ endAt (now (page .entry)) at (countsText t) ⌝ }
-    ensures buffer { λ r. ⌜ now (page .exit) ≡ placed (now (page .entry)) at (countsText t) ⌝ }
+    ensures buffer { λ r. ⌜ now (page .exit) ≡ putAt (now (page .entry)) at (countsText t) ⌝ }
 {
     let a = put_u32(page, at, b" ", t.sync_losses);
     let b = put_u32(page, a, b" ", t.sync_byte_errors);
@@ -108,7 +108,7 @@ fn put_counts(page: &mut [u8], at: usize, t: StreamCounts) -> usize
 // A label and a number of 32 bits.
 fn put_u32(page: &mut [u8], at: usize, label: &[u8], n: u32) -> usize
     ensures answer { λ r. ⌜ r ≡ endAt (now (page .entry)) at (number (now (label .entry)) n) ⌝ }
-    ensures buffer { λ r. ⌜ now (page .exit) ≡ placed (now (page .entry)) at (number (now (label .entry)) n) ⌝ }
+    ensures buffer { λ r. ⌜ now (page .exit) ≡ putAt (now (page .entry)) at (number (now (label .entry)) n) ⌝ }
 {
     put_number(page, at, label, n as u64)
 }
@@ -116,7 +116,7 @@ fn put_u32(page: &mut [u8], at: usize, label: &[u8], n: u32) -> usize
 // A label and a number of 16 bits.
 fn put_u16(page: &mut [u8], at: usize, label: &[u8], n: u16) -> usize
     ensures answer { λ r. ⌜ r ≡ endAt (now (page .entry)) at (number (now (label .entry)) n) ⌝ }
-    ensures buffer { λ r. ⌜ now (page .exit) ≡ placed (now (page .entry)) at (number (now (label .entry)) n) ⌝ }
+    ensures buffer { λ r. ⌜ now (page .exit) ≡ putAt (now (page .entry)) at (number (now (label .entry)) n) ⌝ }
 {
     put_u32(page, at, label, n as u32)
 }

@@ -5,14 +5,14 @@ use mathlib.Core.Bool.{Bool, true, false}
 use mathlib.Core.List.{List}
 use native.Mathlib.Omega.{arith}
 use Rattle.refusal.specs.Table.{setting}
-use Rattle.refusal.specs.Answer.{unless}
+use Rattle.refusal.specs.Answer.{unless, ifAccepted}
 use Rattle.refusal.specs.declared.Refusal.{Refusal}
 use Rattle.settings.specs.Ranges.{burstInRange}
 use Rattle.trace.specs.declared.Event.{Event}
-use Rattle.trace.specs.declared.Judged.{Judged}
-use Rattle.trace.specs.declared.Judged.the-variants.{Accepted as Judged·Accepted, Refused as Judged·Refused}
-use Rattle.trace.specs.Trace.{judged, ifAccepted}
-use Rattle.bursts.specs.declared.Measured.the-variants.{Refused as Measured·Refused}
+use Rattle.refusal.specs.declared.Judged.{Judged}
+use Rattle.refusal.specs.declared.Judged.the-variants.{Accepted as Judged·Accepted, Refused as Judged·Refused}
+use Rattle.trace.specs.Trace.{judged}
+use Rattle.bursts.specs.declared.FiguresRead.the-variants.{Refused as FiguresRead·Refused}
 use Rattle.tally.specs.declared.Tally.{Tally}
 use Rattle.tally.specs.declared.Opened.the-variants.{Accepted, Refused}
 use Rattle.tally.specs.Tally.{fresh, closeOf, takeAll, overTrace}
@@ -36,13 +36,13 @@ module _ (gmin spacing : ℕ) (event : Event) (s : List ℕ) where
       go true (Judged·Refused why) r j e = let z : _≡_ {A = ℕ} 0 1 = cc in absurd (omega arith)
       go false j r e a = let z : _≡_ {A = ℕ} 0 1 = cc in absurd (omega arith)
 
-  pub of-refused : (why : Refusal) → overTrace gmin spacing event s ≡ Refused why → Measured·Refused why ≡ figuresIn gmin spacing event s
+  pub of-refused : (why : Refusal) → overTrace gmin spacing event s ≡ Refused why → FiguresRead·Refused why ≡ figuresIn gmin spacing event s
   unfolding overTrace figuresIn
   of-refused why h = go (burstInRange gmin spacing) (judged s) refl refl h
     where
       go : (b : Bool) (j : Judged) → burstInRange gmin spacing ≡ b → judged s ≡ j →
           unless b (Refused setting) (ifAccepted j Refused (Accepted (takeAll (fresh gmin spacing event) s))) ≡ Refused why →
-          Measured·Refused why ≡ figuresIn gmin spacing event s
+          FiguresRead·Refused why ≡ figuresIn gmin spacing event s
       go true Judged·Accepted r j e = let z : _≡_ {A = ℕ} 0 1 = cc in absurd (omega arith)
       go true (Judged·Refused r′) r j e = let same : r′ ≡ why = cc in rw (r, j, same)
       go false j r e a = let same : setting ≡ why = cc in rw (r, same)

@@ -9,17 +9,17 @@ use borrow.Author.Tests.{le-leb, eq-eqb}
 use lib.ListN.{length}
 use lib.Seq.{take-length}
 use Rattle.refusal.specs.Table.{setting}
-use Rattle.refusal.specs.Answer.{unless}
+use Rattle.refusal.specs.Answer.{unless, ifAccepted}
 use Rattle.settings.specs.Ranges.{burstInRange}
 use Rattle.block.specs.Reading.{rateMax, unavailable, rateGood, flagGood, summaryFault}
 use Rattle.block.specs.declared.Block.the-variants.{Loss, Discard}
 use Rattle.trace.specs.declared.Event.{Event}
-use Rattle.trace.specs.declared.Judged.{Judged}
-use Rattle.trace.specs.declared.Judged.the-variants.{Accepted as Judged·Accepted, Refused as Judged·Refused}
-use Rattle.trace.specs.Trace.{countsAs, judged, ifAccepted}
+use Rattle.refusal.specs.declared.Judged.{Judged}
+use Rattle.refusal.specs.declared.Judged.the-variants.{Accepted as Judged·Accepted, Refused as Judged·Refused}
+use Rattle.trace.specs.Trace.{countsAs, judged}
 use Rattle.bursts.specs.declared.Sums.{Sums}
 use Rattle.bursts.specs.declared.Figures.{Figures}
-use Rattle.bursts.specs.declared.Measured.the-variants.{Accepted, Refused}
+use Rattle.bursts.specs.declared.FiguresRead.the-variants.{Accepted, Refused}
 use Rattle.bursts.specs.Sums.{sumsOf}
 use Rattle.encode.specs.Laws.{Half}
 use Rattle.encode.proofs.ReadBack.{read-back}
@@ -74,17 +74,17 @@ pub tally-writes : Tally-writes
 tally-writes t f h = writes (counted t) f (tally-right t f h)
 
 -- a trace whose figures are given was accepted, and so were the settings
-record Measured (gmin spacing : ℕ) (s : List ℕ) : Type 0 where
+record Passed (gmin spacing : ℕ) (s : List ℕ) : Type 0 where
   pub ranges : burstInRange gmin spacing ≡ true
   pub accepted : judged s ≡ Judged·Accepted
 
-measured : (gmin spacing : ℕ) (event : Event) (s : List ℕ) (f : Figures) → figuresIn gmin spacing event s ≡ Accepted f → Measured gmin spacing s
+passed : (gmin spacing : ℕ) (event : Event) (s : List ℕ) (f : Figures) → figuresIn gmin spacing event s ≡ Accepted f → Passed gmin spacing s
 unfolding figuresIn
-measured gmin spacing event s f h = go (burstInRange gmin spacing) (judged s) refl refl h
+passed gmin spacing event s f h = go (burstInRange gmin spacing) (judged s) refl refl h
   where
     go : (b : Bool) (j : Judged) → burstInRange gmin spacing ≡ b → judged s ≡ j →
         unless b (Refused setting) (ifAccepted j Refused (Accepted (figuresOf (sumsOf (countsAs event) gmin spacing s)))) ≡ Accepted f →
-        Measured gmin spacing s
+        Passed gmin spacing s
     go true Judged·Accepted r j e = record { ranges = r; accepted = j }
     go true (Judged·Refused why) r j e = let z : _≡_ {A = ℕ} 0 1 = cc in absurd (omega arith)
     go false j r e a = let z : _≡_ {A = ℕ} 0 1 = cc in absurd (omega arith)
@@ -92,7 +92,7 @@ measured gmin spacing event s f h = go (burstInRange gmin spacing) (judged s) re
 pub trace-right : Trace-right
 unfolding figuresIn
 trace-right gmin spacing event s f h =
-    let m = measured gmin spacing event s f h in
+    let m = passed gmin spacing event s f h in
     let t = fresh gmin spacing event in
     let g : Given gmin spacing event t s = record { opened = sym (opened gmin spacing event t (m .ranges) refl); accepted = m .accepted } in
     let closed : closeOf (takeAll t s) ≡ Accepted f = closes-with-figures gmin spacing event t s g ∙ (rw (m .ranges, m .accepted) at h) in

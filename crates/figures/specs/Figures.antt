@@ -4,19 +4,19 @@
 use Prim.Native.Nat.{ℕ}
 use mathlib.Core.List.{List}
 use Rattle.refusal.specs.Table.{setting}
-use Rattle.refusal.specs.Answer.{unless}
+use Rattle.refusal.specs.Answer.{unless, ifAccepted}
 use Rattle.settings.specs.Ranges.{burstInRange}
 use Rattle.block.specs.declared.LossSummary.{LossSummary}
 use Rattle.block.specs.declared.DiscardSummary.{DiscardSummary}
 use Rattle.trace.specs.declared.Event.{Event}
-use Rattle.trace.specs.Trace.{countsAs, judged, ifAccepted}
+use Rattle.trace.specs.Trace.{countsAs, judged}
 use Rattle.bursts.specs.declared.Figures.{Figures}
-use Rattle.bursts.specs.declared.Measured.{Measured}
-use Rattle.bursts.specs.declared.Measured.the-variants.{Accepted, Refused}
+use Rattle.bursts.specs.declared.FiguresRead.{FiguresRead}
+use Rattle.bursts.specs.declared.FiguresRead.the-variants.{Accepted, Refused}
 use Rattle.bursts.specs.Sums.{sumsOf}
 use Rattle.bursts.specs.Figures.{figuresOf}
 
-unfoldable pub figuresIn : ℕ → ℕ → Event → List ℕ → Measured
+unfoldable pub figuresIn : ℕ → ℕ → Event → List ℕ → FiguresRead
 figuresIn gmin spacing event s =
     unless (burstInRange gmin spacing) (Refused setting)
     (ifAccepted (judged s) Refused (Accepted (figuresOf (sumsOf (countsAs event) gmin spacing s))))

@@ -12,7 +12,7 @@ use Rattle.encode.specs.Laws.{Word, readBytes}
 use Rattle.trace.specs.declared.Event.{Event}
 use Rattle.trace.specs.Trace.{countsAs}
 use Rattle.bursts.specs.declared.Figures.{Figures}
-use Rattle.bursts.specs.declared.Measured.the-variants.{Accepted}
+use Rattle.bursts.specs.declared.FiguresRead.the-variants.{Accepted}
 use Rattle.bursts.specs.Sums.{sumsOf}
 use Rattle.bursts.specs.Laws.{Right}
 use Rattle.tally.specs.declared.Tally.{Tally}

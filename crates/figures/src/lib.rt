@@ -3,19 +3,19 @@
 use block::DiscardSummary;
 use block::LossSummary;
 use bursts::Figures;
-use bursts::Measured;
+use bursts::FiguresRead;
 use tally::Opened;
 use trace::Event;
 ghost use mathlib.Core.Path.{_≡_};
 ghost use Rattle.figures.specs.Figures.{figuresIn, lossBlock, discardBlock};
 
 // The figures of a trace, with the events of this kind.
-pub fn of_trace(trace: &[u8], gmin: u32, spacing: u32, event: Event) -> Measured
+pub fn of_trace(trace: &[u8], gmin: u32, spacing: u32, event: Event) -> FiguresRead
     ensures { λ r. ⌜ r ≡ figuresIn gmin spacing event (now (trace .entry)) ⌝ }
 {
     match tally::over(trace, gmin, spacing, event) {
         Opened::Accepted(tally) => tally.close(),
-        Opened::Refused(why) => Measured::Refused(why),
+        Opened::Refused(why) => FiguresRead::Refused(why),
     }
 }
 

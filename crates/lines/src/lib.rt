@@ -6,7 +6,7 @@ use labels::put_number;
 use labels::put_source;
 use refusal::Refusal;
 ghost use mathlib.Core.Path.{_≡_};
-ghost use Rattle.text.specs.Page.{placed, endAt};
+ghost use Rattle.text.specs.Page.{putAt, endAt};
 ghost use Rattle.lines.specs.Lines.{blockLine, headLine, refusalLine};
 
 // Room that is enough for any line.
@@ -15,7 +15,7 @@ pub const LINE: usize = 512;
 // The first line: the sender and the number of blocks.
 pub fn put_head(page: &mut [u8], at: usize, sender: u32, count: usize) -> usize
     ensures answer { λ r. ⌜ r ≡ endAt (now (page .entry)) at (headLine sender count) ⌝ }
-    ensures buffer { λ r. ⌜ now (page .exit) ≡ placed (now (page .entry)) at (headLine sender count) ⌝ }
+    ensures buffer { λ r. ⌜ now (page .exit) ≡ putAt (now (page .entry)) at (headLine sender count) ⌝ }
 {
     let a = put_source(page, at, b"ssrc ", sender);
     let b = put_number(page, a, b" blocks ", count as u64);
@@ -25,7 +25,7 @@ pub fn put_head(page: &mut [u8], at: usize, sender: u32, count: usize) -> usize
 // The only line of a refused packet.
 pub fn put_refusal(page: &mut [u8], at: usize, r: Refusal) -> usize
     ensures answer { λ e. ⌜ e ≡ endAt (now (page .entry)) at (refusalLine r) ⌝ }
-    ensures buffer { λ e. ⌜ now (page .exit) ≡ placed (now (page .entry)) at (refusalLine r) ⌝ }
+    ensures buffer { λ e. ⌜ now (page .exit) ≡ putAt (now (page .entry)) at (refusalLine r) ⌝ }
 {
     let a = put_number(page, at, b"refused ", r.number as u64);
     let b = put_number(page, a, b" at ", r.place as u64);
@@ -42,7 +42,7 @@ pub fn put_block(
     read: BlockRead,
 ) -> usize
     ensures answer { λ r. ⌜ r ≡ endAt (now (page .entry)) at (blockLine k kind size read) ⌝ }
-    ensures buffer { λ r. ⌜ now (page .exit) ≡ placed (now (page .entry)) at (blockLine k kind size read) ⌝ }
+    ensures buffer { λ r. ⌜ now (page .exit) ≡ putAt (now (page .entry)) at (blockLine k kind size read) ⌝ }
 {
     let a = text::put_decimal(page, at, k as u64);
     match read {

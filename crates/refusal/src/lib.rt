@@ -12,6 +12,12 @@ pub struct Refusal {
     pub place: usize, // 6: the block's offset; 9: the byte's index in a trace; 0 elsewhere
 }
 
+// What judging an input comes to: it is accepted, or why not.
+pub enum Judged {
+    Accepted,
+    Refused(Refusal),
+}
+
 // What a call that fills a lent buffer from its front answers: how many bytes, or entries, are the
 // result, or why not.
 pub enum Written {

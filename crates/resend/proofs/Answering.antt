@@ -9,7 +9,7 @@ use Rattle.refusal.specs.Table.{bufferShort}
 use Rattle.refusal.specs.declared.Refusal.{Refusal}
 use Rattle.settings.proofs.Bounds.{batch}
 use Rattle.trace.specs.declared.Event.{Event}
-use Rattle.trace.specs.declared.Judged.the-variants.{Accepted, Refused as Judged·Refused}
+use Rattle.refusal.specs.declared.Judged.the-variants.{Accepted, Refused as Judged·Refused}
 use Rattle.trace.specs.Trace.{countedIn}
 use Rattle.batch.specs.Judging.{judgedFor}
 use Rattle.batch.proofs.Judging.{accepted}

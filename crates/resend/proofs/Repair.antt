@@ -11,7 +11,7 @@ use lib.ListN.{length, getD}
 use Rattle.settings.specs.Ranges.{batchInRange}
 use Rattle.trace.specs.declared.Event.{Event}
 use Rattle.trace.specs.declared.Event.the-variants.{Lost, Discarded}
-use Rattle.trace.specs.declared.Judged.the-variants.{Accepted}
+use Rattle.refusal.specs.declared.Judged.the-variants.{Accepted}
 use Rattle.trace.specs.Sum.{bit}
 use Rattle.trace.specs.Trace.{received, packetMax, countsAs, countedIn, judged}
 use Rattle.trace.specs.Laws.{Sound}

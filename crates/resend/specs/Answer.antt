@@ -6,9 +6,9 @@ use mathlib.Core.List.{List, _++_}
 use lib.Dec.{leb}
 use lib.ListN.{length, drop}
 use Rattle.refusal.specs.Table.{bufferShort}
-use Rattle.refusal.specs.Answer.{unless}
+use Rattle.refusal.specs.Answer.{unless, ifAccepted}
 use Rattle.trace.specs.declared.Event.{Event}
-use Rattle.trace.specs.Trace.{countedIn, ifAccepted}
+use Rattle.trace.specs.Trace.{countedIn}
 use Rattle.batch.specs.Judging.{judgedFor}
 use Rattle.resend.specs.declared.Planned.{Planned}
 use Rattle.resend.specs.declared.Planned.the-variants.{Marks, Refused}

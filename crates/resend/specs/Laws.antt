@@ -8,7 +8,7 @@ use lib.ListN.{length, take, drop}
 use Rattle.refusal.specs.declared.Refusal.{Refusal}
 use Rattle.settings.specs.Ranges.{batchInRange}
 use Rattle.trace.specs.declared.Event.{Event}
-use Rattle.trace.specs.declared.Judged.the-variants.{Accepted}
+use Rattle.refusal.specs.declared.Judged.the-variants.{Accepted}
 use Rattle.trace.specs.Trace.{countedIn, judged}
 use Rattle.batch.specs.declared.First.the-variants.{None}
 use Rattle.batch.specs.declared.LossRead.the-variants.{Loss}

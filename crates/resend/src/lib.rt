@@ -1,9 +1,9 @@
 // The resend plan: demand 3 and document 01, "The plan". One byte for each packet of a trace, 1 to resend and 0
 // otherwise, so that no batch is left with more than T losses: as few marks as can be, each as late as can be.
 use batch::judge;
+use refusal::Judged;
 use refusal::Refusal;
 use trace::Event;
-use trace::Judged;
 use trace::counts;
 ghost use mathlib.Core.Path.{_≡_};
 ghost use mathlib.Core.List.{_++_};

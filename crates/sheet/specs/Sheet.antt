@@ -18,8 +18,8 @@ use Rattle.packet.specs.declared.BlockAt.the-variants.{Found}
 use Rattle.card.specs.Card.{readCard}
 use Rattle.card.specs.declared.CardRead.{CardRead}
 use Rattle.card.specs.declared.CardRead.the-variants.{Accepted, Refused}
-use Rattle.bursts.specs.declared.Measured.{Measured}
-use Rattle.bursts.specs.declared.Measured.the-variants.{Accepted as Measured·Accepted}
+use Rattle.bursts.specs.declared.FiguresRead.{FiguresRead}
+use Rattle.bursts.specs.declared.FiguresRead.the-variants.{Accepted as FiguresRead·Accepted}
 use Rattle.figures.specs.Figures.{figuresIn}
 use Rattle.batch.specs.declared.First.the-variants.{At, None}
 use Rattle.batch.specs.declared.LossRead.{LossRead}
@@ -41,7 +41,7 @@ pub data Given : Type 0 where
 pub data Outcome : Type 0 where
   loss : LossRead → Outcome
   plan : Planned → List ℕ → Outcome
-  figures : Measured → Outcome
+  figures : FiguresRead → Outcome
   settings : CardRead → Outcome
   blocks : PacketHead → BlockAt → Outcome
 
@@ -65,7 +65,7 @@ found k n i first = loss (Loss (record { over = k; batches = n; index = i; first
 
 abbrev pub measured : ℕ → ℕ → ℕ → ℕ → Outcome
 measured burst gap mean variance =
-    figures (Measured·Accepted (record { «burst_rate» = burst; «gap_rate» = gap; «burst_mean» = mean; «burst_variance» = variance }))
+    figures (FiguresRead·Accepted (record { «burst_rate» = burst; «gap_rate» = gap; «burst_mean» = mean; «burst_variance» = variance }))
 
 abbrev pub trace-1 : List ℕ
 trace-1 = 0 ∷ 1 ∷ 1 ∷ 0 ∷ 1 ∷ 0 ∷ 1 ∷ 0 ∷ 0 ∷ []

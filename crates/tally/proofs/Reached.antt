@@ -13,7 +13,7 @@ use Rattle.trace.specs.declared.Event.{Event}
 use Rattle.trace.specs.Trace.{packetMax, traceMax, countsAs}
 use Rattle.trace.specs.Laws.{Sound}
 use Rattle.trace.proofs.Judging.{accepted-sound}
-use Rattle.bursts.specs.declared.Measured.the-variants.{Accepted as Measured·Accepted}
+use Rattle.bursts.specs.declared.FiguresRead.the-variants.{Accepted as FiguresRead·Accepted}
 use Rattle.bursts.specs.Groups.{eventsFrom, groups, bursts, total}
 use Rattle.bursts.specs.Sums.{sumsOver, sumsOf}
 use Rattle.bursts.specs.Figures.{figuresOf, rateOf, meanOf, varianceOf}
@@ -102,7 +102,7 @@ module _ (gmin spacing : ℕ) (event : Event) (t : Tally) (f : Fresh gmin spacin
       = sym reached-steps ∙ ap (λ (u : Tally). stepAll u s) (f .none ∙ none-held gmin spacing event) ∙ all-held gmin spacing event [] s (none-inside gmin spacing event) in
       ap counted held ∙ counted-all gmin spacing event s
 
-  reached-closed : closeOf (takeAll t s) ≡ Measured·Accepted (figuresOf (sumsOf (countsAs event) gmin spacing s))
+  reached-closed : closeOf (takeAll t s) ≡ FiguresRead·Accepted (figuresOf (sumsOf (countsAs event) gmin spacing s))
   unfolding closeOf
   reached-closed = rw (reached-sound, reached-counted)
 

@@ -11,10 +11,10 @@ use Rattle.settings.specs.Ranges.{spacingMax, burstInRange}
 use Rattle.trace.specs.declared.Event.{Event}
 use Rattle.trace.specs.Trace.{packetMax, traceMax, countsAs}
 use Rattle.bursts.specs.declared.Sums.{Sums}
-use Rattle.bursts.specs.declared.Measured.the-variants.{Refused as Measured·Refused}
+use Rattle.bursts.specs.declared.FiguresRead.the-variants.{Refused as FiguresRead·Refused}
 use Rattle.bursts.specs.Groups.{duration}
 use Rattle.bursts.specs.Sums.{durationsMax, sumsSound}
-use Rattle.bursts.specs.Figures.{measuredOf}
+use Rattle.bursts.specs.Figures.{measureOf}
 use Rattle.tally.specs.declared.Tally.{Tally}
 use Rattle.tally.specs.declared.Opened.the-variants.{Accepted, Refused}
 use Rattle.tally.specs.declared.Answer.the-variants.{Accepted as Answer·Accepted}
@@ -83,10 +83,10 @@ module _ (t : Tally) where
         taken r h e = rw (s, lt-ltb (t .sums .packets) traceMax room, le-leb packet packetMax h, e)
 
   -- closing
-  pub not-closed : false ≡ sound t → Measured·Refused setting ≡ closeOf t
+  pub not-closed : false ≡ sound t → FiguresRead·Refused setting ≡ closeOf t
   unfolding closeOf
   not-closed h = rw (← h)
 
-  pub closes : sumsSound (counted t) ≡ sound t → measuredOf (counted t) ≡ closeOf t
-  unfolding closeOf measuredOf
+  pub closes : sumsSound (counted t) ≡ sound t → measureOf (counted t) ≡ closeOf t
+  unfolding closeOf measureOf
   closes h = rw h

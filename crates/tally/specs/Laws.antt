@@ -5,10 +5,10 @@ use mathlib.Core.Bool.{true}
 use mathlib.Core.List.{List}
 use lib.ListN.{length, getD, take}
 use Rattle.trace.specs.declared.Event.{Event}
-use Rattle.trace.specs.declared.Judged.the-variants.{Accepted as Judged·Accepted}
+use Rattle.refusal.specs.declared.Judged.the-variants.{Accepted as Judged·Accepted}
 use Rattle.trace.specs.Trace.{countsAs, judged}
 use Rattle.block.specs.Reading.{unavailable}
-use Rattle.bursts.specs.declared.Measured.the-variants.{Accepted as Measured·Accepted}
+use Rattle.bursts.specs.declared.FiguresRead.the-variants.{Accepted as FiguresRead·Accepted}
 use Rattle.bursts.specs.Sums.{sumsOf}
 use Rattle.bursts.specs.Figures.{figuresOf}
 use Rattle.tally.specs.declared.Tally.{Tally}
@@ -42,11 +42,11 @@ Counts-all =
 abbrev pub Closes-with-figures : Type 0
 Closes-with-figures =
     (gmin spacing : ℕ) (event : Event) (t : Tally) (s : List ℕ) → Given gmin spacing event t s →
-    closeOf (takeAll t s) ≡ Measured·Accepted (figuresOf (sumsOf (countsAs event) gmin spacing s))
+    closeOf (takeAll t s) ≡ FiguresRead·Accepted (figuresOf (sumsOf (countsAs event) gmin spacing s))
 
 -- A tally that took no packet closes with every figure unavailable.
 abbrev pub Closes-empty : Type 0
 Closes-empty =
     (gmin spacing : ℕ) (event : Event) (t : Tally) → openOf gmin spacing event ≡ Accepted t →
     closeOf t
-    ≡ Measured·Accepted (record { «burst_rate» = unavailable; «gap_rate» = unavailable; «burst_mean» = unavailable; «burst_variance» = unavailable })
+    ≡ FiguresRead·Accepted (record { «burst_rate» = unavailable; «gap_rate» = unavailable; «burst_mean» = unavailable; «burst_variance» = unavailable })

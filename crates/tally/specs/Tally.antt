@@ -6,14 +6,14 @@ use mathlib.Core.Bool.{Bool, cond, _&&_}
 use mathlib.Core.List.{List, [], _∷_}
 use lib.Dec.{leb, ltb}
 use Rattle.refusal.specs.Table.{setting, traceLength, traceByte}
-use Rattle.refusal.specs.Answer.{unless}
+use Rattle.refusal.specs.Answer.{unless, ifAccepted}
 use Rattle.refusal.specs.declared.Refusal.{Refusal}
 use Rattle.settings.specs.Ranges.{burstInRange}
 use Rattle.trace.specs.declared.Event.{Event}
-use Rattle.trace.specs.Trace.{packetMax, traceMax, countsAs, judged, ifAccepted}
+use Rattle.trace.specs.Trace.{packetMax, traceMax, countsAs, judged}
 use Rattle.bursts.specs.declared.Sums.{Sums}
-use Rattle.bursts.specs.declared.Measured.{Measured}
-use Rattle.bursts.specs.declared.Measured.the-variants.{Accepted as Measured·Accepted, Refused as Measured·Refused}
+use Rattle.bursts.specs.declared.FiguresRead.{FiguresRead}
+use Rattle.bursts.specs.declared.FiguresRead.the-variants.{Accepted as FiguresRead·Accepted, Refused as FiguresRead·Refused}
 use Rattle.bursts.specs.Groups.{burstMin, duration, square}
 use Rattle.bursts.specs.Sums.{countsSound, durationsSound}
 use Rattle.bursts.specs.Figures.{figuresOf}
@@ -136,8 +136,8 @@ takeOne t packet =
     (record { tally = stepOf t packet; answer = Answer·Accepted })))
 
 -- Closing.
-unfoldable pub closeOf : Tally → Measured
-closeOf t = unless (sound t) (Measured·Refused setting) (Measured·Accepted (figuresOf (counted t)))
+unfoldable pub closeOf : Tally → FiguresRead
+closeOf t = unless (sound t) (FiguresRead·Refused setting) (FiguresRead·Accepted (figuresOf (counted t)))
 
 -- Packets one after another, each taken or refused.
 unfoldable pub takeAll : Tally → List ℕ → Tally

@@ -1,11 +1,11 @@
 // The tally of bursts: document 01, "The trace and its figures". A tally is opened with Gmin, the spacing and
 // the event that it counts, takes packets one after the other, by value, and closes with the figures. Any
 // tally may be handed in: one that is not sound is refused, and no sum of it wraps.
-use bursts::Measured;
+use bursts::FiguresRead;
 use bursts::Sums;
+use refusal::Judged;
 use refusal::Refusal;
 use trace::Event;
-use trace::Judged;
 ghost use mathlib.Core.Path.{_≡_};
 ghost use Rattle.tally.specs.Tally.{fresh, openOf, countedIn, openWithin, sound, stepOf, takeOne, refusedWith, closeOf, overTrace};
 ghost use Rattle.tally.specs.Steps.{Room, Bounded, sumsWithin, bounded};
@@ -128,14 +128,14 @@ impl Tally {
     }
 
     // The figures of all packets taken.
-    pub fn close(self) -> Measured
+    pub fn close(self) -> FiguresRead
         ensures { λ r. ⌜ r ≡ closeOf self ⌝ }
     {
         if !settings::burst_in_range(self.gmin, self.spacing) {
-            return Measured::Refused(refusal::SETTING);
+            return FiguresRead::Refused(refusal::SETTING);
         }
         if !self.is_bounded() {
-            return Measured::Refused(refusal::SETTING);
+            return FiguresRead::Refused(refusal::SETTING);
         }
         bursts::measure(counted_in(self.sums, self.stretch, self.spacing))
     }

@@ -8,9 +8,9 @@ use native.Mathlib.Decide.{decLe}
 use native.Mathlib.Nat.{min-le-left}
 use lib.ListN.{length, take, drop, length-append}
 use lib.Seq.{paste, take-paste, drop-paste, drop-drop, take-all, take-append-le, take-append-add}
-use Rattle.text.specs.Page.{fitting, endAt, placed}
+use Rattle.text.specs.Page.{fitting, endAt, putAt}
 use Rattle.text.specs.Laws.{Put, Joined}
-use Rattle.text.proofs.Room.{length-placed, put-past, end-past, end-inside}
+use Rattle.text.proofs.Room.{length-put, put-past, end-past, end-inside}
 
 -- the bytes put of two texts are those of the joined text: all of a, or none of b
 texts : (a b : List ℕ) (room n m k : ℕ) → n ≡ min (length a) room → m ≡ min (length b) (room - n) → k ≡ min (length a + length b) room →
@@ -47,9 +47,9 @@ glue p at n m k a b inside whole texts-are sum =
     ∙ ap (λ (l : List ℕ). l ++ drop (at + k) p) (append-assoc (take at p) (take n a) (take m b) ∙ ap (λ (l : List ℕ). take at p ++ l) texts-are)
 
 module _ (page : List ℕ) (at : ℕ) (a b : List ℕ) where
-  pub end-joined : endAt (placed page at a) (endAt page at a) b ≡ endAt page at (a ++ b)
+  pub end-joined : endAt (putAt page at a) (endAt page at a) b ≡ endAt page at (a ++ b)
   unfolding endAt
-  end-joined = rw (length-placed page at a, length-append a b) (omega arith)
+  end-joined = rw (length-put page at a, length-append a b) (omega arith)
 
   from : (q : List ℕ) (n m k e : ℕ) → at ≤ length page → q ≡ paste page at a n → length q ≡ length page → n ≡ fitting page at a → e ≡ at + n →
       m ≡ fitting q e b → k ≡ fitting page at (a ++ b) → take e q ++ take m b ++ drop (e + m) q ≡ take at page ++ take k (a ++ b) ++ drop (at + k) page
@@ -60,15 +60,15 @@ module _ (page : List ℕ) (at : ℕ) (a b : List ℕ) where
       (glue page at n m k a b h (rw en (min-le-left (length a) (length page - at))) (texts a b (length page - at) n m k en em2 ek2)
       (sums (length a) (length b) (length page - at) n m k en em2 ek2))
 
-  inside-joined : at ≤ length page → placed (placed page at a) (endAt page at a) b ≡ placed page at (a ++ b)
-  unfolding placed endAt
+  inside-joined : at ≤ length page → putAt (putAt page at a) (endAt page at a) b ≡ putAt page at (a ++ b)
+  unfolding putAt endAt
   inside-joined h =
-      from (placed page at a) (fitting page at a) (fitting (placed page at a) (endAt page at a) b) (fitting page at (a ++ b)) (endAt page at a) h refl (length-placed page at a) refl refl refl refl
+      from (putAt page at a) (fitting page at a) (fitting (putAt page at a) (endAt page at a) b) (fitting page at (a ++ b)) (endAt page at a) h refl (length-put page at a) refl refl refl refl
 
-  pub placed-joined : placed (placed page at a) (endAt page at a) b ≡ placed page at (a ++ b)
-  placed-joined = go (decLe at (length page))
+  pub put-joined : putAt (putAt page at a) (endAt page at a) b ≡ putAt page at (a ++ b)
+  put-joined = go (decLe at (length page))
     where
-      go : Dec (at ≤ length page) → placed (placed page at a) (endAt page at a) b ≡ placed page at (a ++ b)
+      go : Dec (at ≤ length page) → putAt (putAt page at a) (endAt page at a) b ≡ putAt page at (a ++ b)
       go (yes inside) = inside-joined inside
       go (no outside) =
           let same = put-past page at a (omega arith) in
@@ -77,14 +77,14 @@ module _ (page : List ℕ) (at : ℕ) (a b : List ℕ) where
 
 pub joined : Joined
 joined page after last at end stop a b first second =
-    (second .0 ∙ rw (first .0, first .1) (end-joined page at a b), second .1 ∙ rw (first .0, first .1) (placed-joined page at a b))
+    (second .0 ∙ rw (first .0, first .1) (end-joined page at a b), second .1 ∙ rw (first .0, first .1) (put-joined page at a b))
 
 -- a text put, by another name, and the page's length after it
 pub same-text : (page after : List ℕ) (at end : ℕ) (a b : List ℕ) → a ≡ b → Put page at after end a → Put page at after end b
-same-text page after at end a b e put = (put .0 ∙ ap (endAt page at) e, put .1 ∙ ap (placed page at) e)
+same-text page after at end a b e put = (put .0 ∙ ap (endAt page at) e, put .1 ∙ ap (putAt page at) e)
 
 pub keeps-length : (page after : List ℕ) (at end : ℕ) (a : List ℕ) → Put page at after end a → length after ≡ length page
-keeps-length page after at end a put = ap length (put .1) ∙ length-placed page at a
+keeps-length page after at end a put = ap length (put .1) ∙ length-put page at a
 
 pub put-inside : (page after : List ℕ) (at end : ℕ) (a : List ℕ) → Put page at after end a → at ≤ length page → end ≤ length after
 put-inside page after at end a put h = rw (put .0, keeps-length page after at end a put) (end-inside page at a h)

@@ -7,7 +7,7 @@ use native.Mathlib.Omega.{arith}
 use native.Mathlib.Numerals.{add-one}
 use lib.ListN.{length, take, drop, getD, set, length-append, length-take, length-drop}
 use lib.Seq.{paste, paste-zero, paste-suc, length-paste, take-all}
-use Rattle.text.specs.Page.{fitting, endAt, placed}
+use Rattle.text.specs.Page.{fitting, endAt, putAt}
 
 module _ (page : List ℕ) (at : ℕ) (text : List ℕ) where
   -- the first i bytes of the text are put
@@ -25,8 +25,8 @@ module _ (page : List ℕ) (at : ℕ) (text : List ℕ) where
   put-more now i h p =
       rw add-one (record { fits = omega arith; same = rw (p .same) (paste-suc page at text i 0 (omega arith) (omega arith)) })
 
-  pub put-end : (now : List ℕ) (i : ℕ) → i ≡ fitting page at text → Putting now i → now ≡ placed page at text
-  unfolding placed endAt
+  pub put-end : (now : List ℕ) (i : ℕ) → i ≡ fitting page at text → Putting now i → now ≡ putAt page at text
+  unfolding putAt endAt
   put-end now i h p = rw (p .same, h)
 
   pub end-is : (n : ℕ) → n ≡ fitting page at text → at + n ≡ endAt page at text
@@ -38,12 +38,12 @@ module _ (page : List ℕ) (at : ℕ) (text : List ℕ) where
   unfolding endAt
   end-past h = omega arith
 
-  pub put-past : length page ≤ at → page ≡ placed page at text
+  pub put-past : length page ≤ at → page ≡ putAt page at text
   put-past h = put-end page 0 (omega arith) put-start
 
-  pub length-placed : length (placed page at text) ≡ length page
-  unfolding placed endAt
-  length-placed = simp (length-append, length-take, length-drop) (omega arith)
+  pub length-put : length (putAt page at text) ≡ length page
+  unfolding putAt endAt
+  length-put = simp (length-append, length-take, length-drop) (omega arith)
 
   pub end-inside : at ≤ length page → endAt page at text ≤ length page
   unfolding endAt
@@ -54,8 +54,8 @@ module _ (page : List ℕ) (at : ℕ) (text : List ℕ) where
   unfolding endAt
   end-room h = omega arith
 
-  pub put-room : at + length text ≤ length page → placed page at text ≡ take at page ++ text ++ drop (at + length text) page
-  unfolding placed endAt
+  pub put-room : at + length text ≤ length page → putAt page at text ≡ take at page ++ text ++ drop (at + length text) page
+  unfolding putAt endAt
   put-room h =
       let e : fitting page at text ≡ length text = omega arith in
       rw (e, take-all (length text) text (omega arith))

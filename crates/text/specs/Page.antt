@@ -11,5 +11,5 @@ fitting page at text = min (length text) (length page - at)
 unfoldable pub endAt : List ℕ → ℕ → List ℕ → ℕ
 endAt page at text = at + fitting page at text
 
-unfoldable pub placed : List ℕ → ℕ → List ℕ → List ℕ
-placed page at text = take at page ++ take (fitting page at text) text ++ drop (endAt page at text) page
+unfoldable pub putAt : List ℕ → ℕ → List ℕ → List ℕ
+putAt page at text = take at page ++ take (fitting page at text) text ++ drop (endAt page at text) page

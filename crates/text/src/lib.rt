@@ -4,11 +4,11 @@
 ghost use mathlib.Core.Path.{_≡_};
 ghost use Prim.Native.Nat.{min};
 ghost use Rattle.text.specs.Text.{decimalOf, hexOf};
-ghost use Rattle.text.specs.Page.{placed, endAt};
+ghost use Rattle.text.specs.Page.{putAt, endAt};
 
 pub fn put(page: &mut [u8], at: usize, text: &[u8]) -> usize
     ensures answer { λ r. ⌜ r ≡ endAt (now (page .entry)) at (now (text .entry)) ⌝ }
-    ensures buffer { λ r. ⌜ now (page .exit) ≡ placed (now (page .entry)) at (now (text .entry)) ⌝ }
+    ensures buffer { λ r. ⌜ now (page .exit) ≡ putAt (now (page .entry)) at (now (text .entry)) ⌝ }
 {
     if page.len() <= at {
         return at;
@@ -25,7 +25,7 @@ pub fn put(page: &mut [u8], at: usize, text: &[u8]) -> usize
 // Decimal digits, with no zeros in front.
 pub fn put_decimal(page: &mut [u8], at: usize, n: u64) -> usize
     ensures answer { λ r. ⌜ r ≡ endAt (now (page .entry)) at (decimalOf n) ⌝ }
-    ensures buffer { λ r. ⌜ now (page .exit) ≡ placed (now (page .entry)) at (decimalOf n) ⌝ }
+    ensures buffer { λ r. ⌜ now (page .exit) ≡ putAt (now (page .entry)) at (decimalOf n) ⌝ }
 {
     let mut digits = [0u8; 20];
     let k = io::decimal(n, &mut digits);
@@ -35,7 +35,7 @@ pub fn put_decimal(page: &mut [u8], at: usize, n: u64) -> usize
 // Eight lower-case hexadecimal digits.
 pub fn put_hex(page: &mut [u8], at: usize, n: u32) -> usize
     ensures answer { λ r. ⌜ r ≡ endAt (now (page .entry)) at (hexOf n) ⌝ }
-    ensures buffer { λ r. ⌜ now (page .exit) ≡ placed (now (page .entry)) at (hexOf n) ⌝ }
+    ensures buffer { λ r. ⌜ now (page .exit) ≡ putAt (now (page .entry)) at (hexOf n) ⌝ }
 {
     let mut places = [0u8; 16];
     let k = io::hex(n as u64, 8, &mut places);

@@ -13,7 +13,7 @@ use lib.Seq.{drop-cons}
 use Rattle.refusal.specs.Answer.{unless}
 use Rattle.refusal.specs.Table.{traceLength, traceByte}
 use Rattle.refusal.proofs.Tests.{both}
-use Rattle.trace.specs.declared.Judged.the-variants.{Accepted, Refused}
+use Rattle.refusal.specs.declared.Judged.the-variants.{Accepted, Refused}
 use Rattle.trace.specs.Trace.{packetMax, traceMin, traceMax, lengthInRange, firstBad, judged}
 use Rattle.trace.specs.Laws.{Sound, Accepted-sound, Sound-accepted, First-bad}
 

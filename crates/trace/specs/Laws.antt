@@ -3,7 +3,7 @@ use Prim.Native.Nat.{ℕ, _<_, _≤_}
 use mathlib.Core.Path.{_≡_}
 use mathlib.Core.List.{List}
 use lib.ListN.{length, getD}
-use Rattle.trace.specs.declared.Judged.the-variants.{Accepted}
+use Rattle.refusal.specs.declared.Judged.the-variants.{Accepted}
 use Rattle.trace.specs.Trace.{packetMax, traceMin, traceMax, firstBad, judged}
 
 -- "An accepted trace has 1 to 65,536 bytes, each 0, 1 or 2."

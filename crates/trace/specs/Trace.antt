@@ -10,8 +10,8 @@ use Rattle.refusal.specs.Answer.{unless}
 use Rattle.refusal.specs.declared.Refusal.{Refusal}
 use Rattle.trace.specs.declared.Event.{Event}
 use Rattle.trace.specs.declared.Event.the-variants.{Lost, Discarded}
-use Rattle.trace.specs.declared.Judged.{Judged}
-use Rattle.trace.specs.declared.Judged.the-variants.{Accepted, Refused}
+use Rattle.refusal.specs.declared.Judged.{Judged}
+use Rattle.refusal.specs.declared.Judged.the-variants.{Accepted, Refused}
 
 abbrev pub received : ℕ
 received = 0
@@ -55,8 +55,3 @@ judged s =
     unless (lengthInRange s) (Refused traceLength)
     (unless (leb (length s) (firstBad s)) (Refused (traceByte (firstBad s)))
     Accepted)
-
--- what an answer is over a trace: its refusal, and otherwise what follows
-abbrev pub ifAccepted : {A : Type 0} → Judged → (Refusal → A) → A → A
-ifAccepted Accepted refused rest = rest
-ifAccepted (Refused r) refused rest = refused r

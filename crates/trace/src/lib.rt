@@ -1,6 +1,6 @@
 // A trace and what is counted in it: document 01, "The trace and its figures". One byte a packet; a trace is
 // accepted or refused as a whole, and a call counts one kind of event in it.
-use refusal::Refusal;
+use refusal::Judged;
 ghost use mathlib.Core.Path.{_≡_};
 ghost use lib.Dec.{ltb};
 ghost use lib.ListN.{length};
@@ -32,12 +32,6 @@ pub fn counts(event: Event, packet: u8) -> bool
         Event::Lost => packet == LOST,
         Event::Discarded => packet == DISCARDED,
     }
-}
-
-// Whether a trace is accepted, or why not.
-pub enum Judged {
-    Accepted,
-    Refused(Refusal),
 }
 
 // Judges a trace by its length and then by its bytes.

@@ -1,6 +1,6 @@
 -- `batch::effective_loss` meets its contract. Each return is one of the cases of Answering.antt. Assumes nothing.
 use mathlib.Core.Path.{_≡_, sym, _∙_}
-use Rattle.trace.specs.declared.Judged.the-variants.{Accepted}
+use Rattle.refusal.specs.declared.Judged.the-variants.{Accepted}
 use Rattle.batch.specs.Judging.{judgedFor}
 use Rattle.batch.proofs.Judging.{fit}
 use Rattle.batch.proofs.Answering.{refused, measured}

@@ -2,7 +2,7 @@
 use mathlib.Core.Path.{ap, _∙_}
 use native.Mathlib.Omega.{arith}
 use borrow.Author.Needs.{needs}
-use Rattle.text.specs.Page.{endAt, placed}
+use Rattle.text.specs.Page.{endAt, putAt}
 use Rattle.text.proofs.Digits.{decimal-is}
 use Rattle.text.proofs.put_decimal.Statement.{statement}
 use Rattle.text.proofs.put_decimal.Tie as tie
@@ -26,7 +26,7 @@ returns : tie.Need-returns
 returns c =
     let made = c .before .before .before .before .before .decimal .ensures in
     let text = made .1 .1 ∙ decimal-is _ _ (omega (arith, c .before .before .before .before .before .before .before .before .fits .n)) (made .1 .0) in
-    (c .before .before .put .ensures .0 ∙ ap (endAt _ _) text, c .before .before .put .ensures .1 ∙ ap (placed _ _) text)
+    (c .before .before .put .ensures .0 ∙ ap (endAt _ _) text, c .before .before .put .ensures .1 ∙ ap (putAt _ _) text)
 
 pub put-decimal-spec : {M : Type 1} → statement M
 put-decimal-spec =

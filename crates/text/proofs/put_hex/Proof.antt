@@ -2,7 +2,7 @@
 use mathlib.Core.Path.{ap, _∙_}
 use native.Mathlib.Omega.{arith}
 use borrow.Author.Needs.{needs}
-use Rattle.text.specs.Page.{endAt, placed}
+use Rattle.text.specs.Page.{endAt, putAt}
 use Rattle.text.proofs.Digits.{hex-is}
 use Rattle.text.proofs.put_hex.Statement.{statement}
 use Rattle.text.proofs.put_hex.Tie as tie
@@ -26,7 +26,7 @@ returns : tie.Need-returns
 returns c =
     let made = c .before .before .before .before .before .hex .ensures in
     let text = made .1 .1 ∙ hex-is _ _ (omega (arith, c .before .before .before .before .before .before .before .before .fits .n)) (made .1 .0) in
-    (c .before .before .put .ensures .0 ∙ ap (endAt _ _) text, c .before .before .put .ensures .1 ∙ ap (placed _ _) text)
+    (c .before .before .put .ensures .0 ∙ ap (endAt _ _) text, c .before .before .put .ensures .1 ∙ ap (putAt _ _) text)
 
 pub put-hex-spec : {M : Type 1} → statement M
 put-hex-spec =

@@ -2,7 +2,7 @@
 use mathlib.Core.Path.{sym, ap, _∙_}
 use native.Mathlib.Omega.{arith}
 use Rattle.refusal.specs.Table.{traceByte}
-use Rattle.trace.specs.declared.Judged.the-variants.{Refused}
+use Rattle.refusal.specs.declared.Judged.the-variants.{Refused}
 use Rattle.trace.proofs.Judging.{empty, too-long, bad-byte, all-good}
 use borrow.Author.Needs.{needs}
 use Rattle.trace.proofs.judge.Statement.{statement}

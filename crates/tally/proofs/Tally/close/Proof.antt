@@ -3,7 +3,7 @@ use mathlib.Core.Path.{_≡_, sym, ap, _∙_}
 use mathlib.Core.Bool.{true}
 use borrow.Author.Tests.{not-true, not-false}
 use Rattle.settings.specs.Ranges.{burstInRange}
-use Rattle.bursts.specs.Figures.{measuredOf}
+use Rattle.bursts.specs.Figures.{measureOf}
 use Rattle.tally.specs.Steps.{bounded}
 use Rattle.tally.proofs.Limits.{out-of-range, out-of-bounds, bounded-of, tested}
 use Rattle.tally.proofs.Turns.{not-closed, closes}
@@ -38,7 +38,7 @@ measure-requires c κs = search needs
 
 returns-3 : tie.Need-returns-3
 returns-3 c =
-    c .measure .ensures ∙ ap measuredOf (c .before .counted-in .ensures)
+    c .measure .ensures ∙ ap measureOf (c .before .counted-in .ensures)
     ∙ closes _ (tested _ (ranges (c .before .before .before .before)) (bounds (c .before .before)))
 
 pub close-spec : {M : Type 1} → statement M
