@@ -14,7 +14,7 @@ import tempfile
 HEADER, RUST, RATTLE = "include/nuvaskoe.h", "rust/nuvaskoe/src/boundary.rs", "crates/{}/src/lib.rt"
 ARCHIVE = "target/staticlib/libnuvaskoe.a"
 READ = ["crates.txt", "README.md", "include/nuvaskoe.h.in", HEADER, "rust/Cargo.toml", RUST,
-        "rust/nuvaskoe/src/refusals.rs", "crates/ffi_block/specs/Answers.antt"]
+        "rust/nuvaskoe/src/refusals.rs", "crates/block/specs/Fields.antt"]
 
 # What drifts, the file, and the text before and after.
 DRIFTS = [

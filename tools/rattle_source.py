@@ -34,7 +34,7 @@ class Source:
         self.refusal_words = _table(readme, "| N | Meaning | What to do |")
         reason_words = _table(readme, "| Reason | Meaning |")
         self.reasons = [(name, reason_words[self.constant("block::" + name)[0]][0]) for name in REASONS]
-        self.places = _places((root / "crates/ffi_block/specs/Answers.antt").read_text())
+        self.places = _places((root / "crates/block/specs/Fields.antt").read_text())
 
     def constant(self, expression):
         """The value of an expression over constants `crate::NAME`, as (number, Rattle type of the last one named)."""
@@ -99,10 +99,9 @@ def _table(readme, head):
 
 
 def _places(definitions):
-    """For each kind of block the names of its fields in their order, from the definition that the calls promise."""
-    kinds = re.findall(r"^fieldsOf \((\w+) \w+\) =\s*(.*?)(?=^fieldsOf|^abbrev|^unfoldable)", definitions, re.S | re.M)
-    names = {}
-    for kind, items in kinds:
-        read = [re.search(r"^\w+ \.«?(\w+)»?$|^(covered)\b", item.strip()) for item in items.split("∷")]
-        names[kind] = [m[1] or "packets" for m in read if m]
+    """For each kind of block the names of its places at the boundary: its fields in layout order, from the definition
+    that the calls promise, and for a 241 the packets covered after its end."""
+    kinds = re.findall(r"^fieldsOf \((\w+) \w+\) =\s*(.*?)\[\]$", definitions, re.S | re.M)
+    names = {kind: re.findall(r"\.«?(\w+)»? ∷", items) for kind, items in kinds}
+    names["Streams"].insert(names["Streams"].index("end") + 1, "packets")
     return names

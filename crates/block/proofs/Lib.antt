@@ -1,4 +1,4 @@
+pub mod Cells
 pub mod Cases
-pub mod Readers
 pub mod Reasons
 pub mod Reserved

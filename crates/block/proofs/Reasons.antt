@@ -1,76 +1,68 @@
--- Why a block read by itself is dropped: D1, D2 or D3, so never D4, `Never-unmeasured` of specs/Laws.antt.
--- Assumes nothing.
-use Prim.Native.Nat.{ℕ, _*_, _<_}
-use mathlib.Core.Path.{_≡_}
-use mathlib.Core.Bool.{Bool, true, false, cond, _&&_}
+-- What an answer says: why a block read by itself is dropped, `Own-reasons`, and what a block measures, `Measures-exactly`
+-- of specs/Laws.antt; and what `measured_by` finds in a block's bytes. Assumes nothing.
+use Prim.Native.Nat.{ℕ, _+_, _*_, _≤_}
+use mathlib.Core.Path.{_≡_, refl, ap}
+use mathlib.Core.Bool.{Bool, true, false}
 use mathlib.Core.List.{List}
 use native.Mathlib.Omega.{arith}
-use lib.Dec.{eqb}
-use lib.ListN.{length}
+use lib.Dec.{leb}
+use lib.ListN.{length, getD, drop, length-drop}
 use Rattle.refusal.specs.Answer.{unless}
-use Rattle.wire.specs.BigEndian.{u16At}
+use Rattle.wire.specs.BigEndian.{be16, be32, u32At}
 use Rattle.block.specs.declared.Block.{Block}
+use Rattle.block.specs.declared.Block.the-variants.{Measured, Loss, Discard, Effective, Streams}
 use Rattle.block.specs.declared.BlockRead.{BlockRead}
 use Rattle.block.specs.declared.BlockRead.the-variants.{Typed, Unknown, Dropped}
-use Rattle.block.specs.Types.{measurementType, lossType, discardType, effectiveType, streamsType, measurementWords, lossWords, discardWords, effectiveWords, streamsWords, badSize, badFlag, badRate, unmeasured}
-use Rattle.block.specs.Layouts.{flagIn}
-use Rattle.block.specs.Reading.{flagGood, rateGood, summaryFault, sized, summaryReason, reasoned, readMeasurement, readLoss, readDiscard, readEffective, readStreams, readBlock}
-use Rattle.block.specs.Laws.{Never-unmeasured}
+use Rattle.block.specs.declared.Measures.the-variants.{Source, Nothing}
+use Rattle.block.specs.Types.{measurementType, measurementWords, badSize, badRate}
+use Rattle.block.specs.Layouts.{measurementIn}
+use Rattle.block.specs.Reading.{readMeasurement, readBlock, readBytes, measuresOf}
+use Rattle.block.specs.Laws.{Own-reasons, MeasuredFor, Measures-exactly}
+use Rattle.block.proofs.Cells.{in-cells}
+use Rattle.block.proofs.Cases.{answers}
 
--- an answer whose reason, where it has one, comes before D4
-abbrev pub Own : BlockRead → Type 0
-Own answer = (reason : ℕ) → answer ≡ Dropped reason → reason < unmeasured
-
-own-typed : (b : Block) → Own (Typed b)
-own-typed b reason h = let z : _≡_ {A = ℕ} 0 1 = cc in absurd (omega arith)
-
-own-unknown : Own Unknown
-own-unknown reason h = let z : _≡_ {A = ℕ} 0 1 = cc in absurd (omega arith)
-
-own-dropped : (reason : ℕ) → reason < unmeasured → Own (Dropped reason)
-own-dropped reason small r h = let same : reason ≡ r = cc in omega arith
-
-own-cond : (t : Bool) (a b : BlockRead) → Own a → Own b → Own (cond t a b)
-own-cond true a b p q = p
-own-cond false a b p q = q
-
-own-unless : (t : Bool) (a b : BlockRead) → Own a → Own b → Own (unless t a b)
-own-unless true a b p q = q
-own-unless false a b p q = p
-
-own-sized : (words : ℕ) (body : List ℕ) (answer : BlockRead) → Own answer → Own (sized words body answer)
-own-sized words body answer own = own-unless (eqb (length body) (4 * words)) (Dropped badSize) answer (own-dropped badSize (omega arith)) own
-
-fault-small : (flag burst gap : ℕ) → summaryFault flag burst gap < unmeasured
-unfolding summaryFault
-fault-small flag burst gap = go (flagGood flag) (rateGood burst && rateGood gap)
+pub own-reasons : Own-reasons
+own-reasons type specific body reason =
+    answers specific body (λ t a. a ≡ Dropped reason → (badSize ≤ reason) × (reason ≤ badRate))
+    (λ t h. let z : _≡_ {A = ℕ} 0 1 = cc in absurd (omega arith))
+    (λ t r low high h. let e : r ≡ reason = cc in (omega arith, omega arith))
+    (λ s. typed _) (λ s g. typed _) (λ s g. typed _) (λ s. typed _) (λ s. typed _)
+    type
   where
-    go : (f r : Bool) → unless f badFlag (unless r badRate 0) < unmeasured
-    go false r = omega arith
-    go true false = omega arith
-    go true true = omega arith
+    typed : (b : Block) → Typed b ≡ Dropped reason → (badSize ≤ reason) × (reason ≤ badRate)
+    typed b h = let z : _≡_ {A = ℕ} 0 1 = cc in absurd (omega arith)
 
-reason-small : (size specific : ℕ) (body : List ℕ) → summaryReason size specific body < unmeasured
-unfolding summaryReason
-reason-small size specific body = go (eqb (length body) size)
+-- no source: a type other than 14, or another size
+pub measures-nothing : (bytes : List ℕ) → (length bytes ≡ 4 + 4 * measurementWords → getD bytes 0 0 ≡ measurementType → ⊥) →
+    Nothing ≡ measuresOf (readBytes bytes)
+unfolding readBytes
+measures-nothing bytes other = go (leb 4 (length bytes))
   where
-    go : (t : Bool) → unless t badSize (summaryFault (flagIn specific) (u16At body 4) (u16At body 6)) < unmeasured
-    go true = fault-small (flagIn specific) (u16At body 4) (u16At body 6)
-    go false = omega arith
+    go : (t : Bool) → Nothing ≡ measuresOf (unless t Unknown (readBlock (getD bytes 0 0) (getD bytes 1 0) (drop 4 bytes)))
+    go false = refl
+    go true =
+        answers (getD bytes 1 0) (drop 4 bytes) (λ t a. t ≡ getD bytes 0 0 → Nothing ≡ measuresOf a)
+        (λ t h. refl) (λ t r low high h. refl)
+        (λ s h. absurd (other (omega (arith, length-drop 4 bytes)) (omega arith)))
+        (λ s g h. refl) (λ s g h. refl) (λ s h. refl) (λ s h. refl)
+        (getD bytes 0 0) refl
 
-own-summary : (size specific : ℕ) (body : List ℕ) (b : Block) → Own (reasoned (summaryReason size specific body) (Typed b))
-own-summary size specific body b =
-    let reason : ℕ = summaryReason size specific body in
-    own-unless (eqb reason 0) (Dropped reason) (Typed b) (own-dropped reason (reason-small size specific body)) (own-typed b)
+pub measures-source : (bytes : List ℕ) → length bytes ≡ 4 + 4 * measurementWords → getD bytes 0 0 ≡ measurementType →
+    Source (u32At bytes 4) ≡ measuresOf (readBytes bytes)
+unfolding readBytes readBlock readMeasurement measurementIn u32At be32 be16
+measures-source bytes size first = rw (first, in-cells (4 + 4 * measurementWords) bytes size)
 
-pub own-reason : (type specific : ℕ) (body : List ℕ) → Own (readBlock type specific body)
-unfolding readBlock readMeasurement readLoss readDiscard readEffective readStreams
-own-reason type specific body =
-    own-cond (eqb type measurementType) _ _ (own-sized measurementWords body _ (own-typed _))
-    (own-cond (eqb type lossType) _ _ (own-summary (4 * lossWords) specific body _)
-    (own-cond (eqb type discardType) _ _ (own-summary (4 * discardWords) specific body _)
-    (own-cond (eqb type effectiveType) _ _ (own-sized effectiveWords body _ (own-typed _))
-    (own-cond (eqb type streamsType) _ _ (own-sized streamsWords body _ (own-typed _)) own-unknown))))
+pub measures-exactly : Measures-exactly
+measures-exactly answer x = (measured answer, λ f. rw (f .typed) (ap Source (f .source)))
+  where
+    none : (a : BlockRead) → Nothing ≡ Source x → MeasuredFor a x
+    none a h = let z : _≡_ {A = ℕ} 0 1 = cc in absurd (omega arith)
 
-pub never-unmeasured : Never-unmeasured
-never-unmeasured type specific body h = let small = own-reason type specific body unmeasured h in omega arith
+    measured : (a : BlockRead) → measuresOf a ≡ Source x → MeasuredFor a x
+    measured (Typed (Measured m)) h = record { block = m; typed = refl; source = cc }
+    measured (Typed (Loss l)) h = none _ h
+    measured (Typed (Discard d)) h = none _ h
+    measured (Typed (Effective e)) h = none _ h
+    measured (Typed (Streams t)) h = none _ h
+    measured Unknown h = none _ h
+    measured (Dropped reason) h = none _ h

@@ -1,59 +1,59 @@
--- Reserved bits and bytes are ignored: `Reserved-specific`, `Reserved-byte`, `Reserved-measurement` and
--- `Reserved-effective` of specs/Laws.antt. Assumes nothing.
-use Prim.Native.Nat.{ℕ}
-use mathlib.Core.Path.{_≡_, _∙_}
+-- Reserved bits and bytes are ignored: `Reserved-ignored` of specs/Laws.antt. A block reads as it does with them cleared.
+-- Assumes nothing.
+use Prim.Native.Nat.{ℕ, _*_, _/_}
+use mathlib.Core.Path.{_≡_, refl, sym, ap₂, _∙_}
+use mathlib.Core.Bool.{Bool, true, false, cond}
 use mathlib.Core.List.{List}
 use native.Mathlib.Omega.{arith}
-use borrow.Author.Tests.{ne-eqb}
-use lib.ListN.{set, length-set}
+use native.Mathlib.Decide.{ℕ-discrete}
+use borrow.Author.Tests.{eq-eqb, ne-eqb}
+use lib.Dec.{eqb}
+use lib.ListN.{length, set, length-set}
 use Rattle.wire.specs.BigEndian.{be16, be32}
-use Rattle.wire.proofs.Changed.{Outside, be16-set, be32-set}
-use Rattle.block.specs.Types.{lossType, discardType}
+use Rattle.block.specs.declared.BlockRead.{BlockRead}
+use Rattle.block.specs.Types.{measurementType, lossType, discardType, effectiveType, streamsType, measurementWords, effectiveWords}
 use Rattle.block.specs.Layouts.{measurementIn, lossIn, discardIn, effectiveIn}
-use Rattle.block.specs.Reading.{summaryReason, readMeasurement, readLoss, readDiscard, readEffective, readBlock}
-use Rattle.block.specs.Laws.{Reserved-specific, Reserved-byte, Reserved-measurement, Reserved-effective}
+use Rattle.block.specs.Reading.{sized, readMeasurement, readLoss, readDiscard, readEffective, readBlock}
+use Rattle.block.specs.Reserved.{clearedByte, clearedBody}
+use Rattle.block.specs.Laws.{Reserved-ignored}
+use Rattle.block.proofs.Cells.{in-cells}
 
-pub reserved-specific : Reserved-specific
-unfolding readBlock readLoss readDiscard summaryReason lossIn discardIn
-reserved-specific type specific specific′ body same = rw same
+pub cleared-size : (type : ℕ) (body : List ℕ) → length (clearedBody type body) ≡ length body
+cleared-size type body = go (eqb type measurementType) (eqb type effectiveType)
+  where
+    go : (m e : Bool) → length (cond m (set (set body 4 0) 5 0) (cond e (set (set body 6 0) 7 0) body)) ≡ length body
+    go true e = simp length-set
+    go false true = simp length-set
+    go false false = refl
 
-pub reserved-byte : Reserved-byte
-unfolding readBlock
-reserved-byte type no-loss no-discard specific specific′ body = rw (ne-eqb type lossType no-loss, ne-eqb type discardType no-discard)
+-- bodies of one length whose answers agree where it is the right one
+same-sized : (words : ℕ) (s t : List ℕ) (a b : BlockRead) → length s ≡ length t → (length t ≡ 4 * words → a ≡ b) → sized words s a ≡ sized words t b
+same-sized words s t a b long same = go (ℕ-discrete (length t) (4 * words))
+  where
+    go : Dec (length t ≡ 4 * words) → sized words s a ≡ sized words t b
+    go (yes e) = rw (long, eq-eqb (length t) (4 * words) e) (same e)
+    go (no e) = rw (long, ne-eqb (length t) (4 * words) e)
 
--- a number outside two bytes that are changed one after the other
-module _ (body : List ℕ) (p q a b i : ℕ) where
-  half : Outside i 2 p → Outside i 2 q → be16 (set (set body p a) q b) i ≡ be16 body i
-  half apart apart′ = be16-set (set body p a) i q b apart′ ∙ be16-set body i p a apart
+pub read-cleared : (type specific : ℕ) (body : List ℕ) → readBlock type (clearedByte type specific) (clearedBody type body) ≡ readBlock type specific body
+unfolding readBlock readMeasurement readLoss readDiscard readEffective measurementIn lossIn discardIn effectiveIn be32 be16
+read-cleared type specific body =
+    go (ℕ-discrete type measurementType) (ℕ-discrete type lossType) (ℕ-discrete type discardType) (ℕ-discrete type effectiveType) (ℕ-discrete type streamsType)
+  where
+    flag : specific / 64 * 64 / 64 ≡ specific / 64
+    flag = omega arith
 
-  word : Outside i 4 p → Outside i 4 q → be32 (set (set body p a) q b) i ≡ be32 body i
-  word apart apart′ = be32-set (set body p a) i q b apart′ ∙ be32-set body i p a apart
+    go : Dec (type ≡ measurementType) → Dec (type ≡ lossType) → Dec (type ≡ discardType) → Dec (type ≡ effectiveType) → Dec (type ≡ streamsType) →
+        readBlock type (clearedByte type specific) (clearedBody type body) ≡ readBlock type specific body
+    go (yes e) l d f s =
+        rw e (same-sized measurementWords (clearedBody measurementType body) body _ _ (cleared-size measurementType body) (λ size. rw (in-cells (4 * measurementWords) body size)))
+    go (no m) (yes e) d f s = rw (e, flag)
+    go (no m) (no l) (yes e) f s = rw (e, flag)
+    go (no m) (no l) (no d) (yes e) s =
+        rw e (same-sized effectiveWords (clearedBody effectiveType body) body _ _ (cleared-size effectiveType body) (λ size. rw (in-cells (4 * effectiveWords) body size)))
+    go (no m) (no l) (no d) (no f) (yes e) = rw e
+    go (no m) (no l) (no d) (no f) (no s) =
+        rw (ne-eqb type measurementType m, ne-eqb type lossType l, ne-eqb type discardType d, ne-eqb type effectiveType f, ne-eqb type streamsType s)
 
-pub same-measurement : (body : List ℕ) (a b : ℕ) → measurementIn (set (set body 4 a) 5 b) ≡ measurementIn body
-unfolding measurementIn
-same-measurement body a b =
-    λ i. record {
-      source = word body 4 5 a b 0 (λ h. omega arith) (λ h. omega arith) i;
-      first = half body 4 5 a b 6 (λ h. omega arith) (λ h. omega arith) i;
-      «extended_first» = word body 4 5 a b 8 (λ h. omega arith) (λ h. omega arith) i;
-      «extended_last» = word body 4 5 a b 12 (λ h. omega arith) (λ h. omega arith) i;
-      interval = word body 4 5 a b 16 (λ h. omega arith) (λ h. omega arith) i;
-      seconds = word body 4 5 a b 20 (λ h. omega arith) (λ h. omega arith) i;
-      fraction = word body 4 5 a b 24 (λ h. omega arith) (λ h. omega arith) i;
-    }
-
-pub reserved-measurement : Reserved-measurement
-unfolding readMeasurement
-reserved-measurement body a b = rw (length-set (set body 4 a) 5 b, length-set body 4 a, same-measurement body a b)
-
-pub same-effective : (body : List ℕ) (a b : ℕ) → effectiveIn (set (set body 6 a) 7 b) ≡ effectiveIn body
-unfolding effectiveIn
-same-effective body a b =
-    λ i. record {
-      source = word body 6 7 a b 0 (λ h. omega arith) (λ h. omega arith) i;
-      index = half body 6 7 a b 4 (λ h. omega arith) (λ h. omega arith) i;
-    }
-
-pub reserved-effective : Reserved-effective
-unfolding readEffective
-reserved-effective body a b = rw (length-set (set body 6 a) 7 b, length-set body 6 a, same-effective body a b)
+pub reserved-ignored : Reserved-ignored
+reserved-ignored type specific specific′ body body′ byte rest =
+    sym (read-cleared type specific body) ∙ ap₂ (readBlock type) byte rest ∙ read-cleared type specific′ body′

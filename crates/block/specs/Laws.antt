@@ -1,32 +1,35 @@
 -- What callers may lean on, as statements about the definitions that the readers promise. Proved in proofs/.
-use Prim.Native.Nat.{ℕ, _/_}
+use Prim.Native.Nat.{ℕ, _≤_}
 use mathlib.Core.Path.{_≡_}
 use mathlib.Core.List.{List}
-use lib.ListN.{set}
-use Rattle.block.specs.declared.BlockRead.the-variants.{Dropped}
-use Rattle.block.specs.Types.{lossType, discardType, unmeasured}
-use Rattle.block.specs.Reading.{readMeasurement, readEffective, readBlock}
+use Rattle.block.specs.declared.Measurement.{Measurement}
+use Rattle.block.specs.declared.Block.the-variants.{Measured}
+use Rattle.block.specs.declared.BlockRead.{BlockRead}
+use Rattle.block.specs.declared.BlockRead.the-variants.{Typed, Dropped}
+use Rattle.block.specs.declared.Measures.the-variants.{Source}
+use Rattle.block.specs.Types.{badSize, badRate}
+use Rattle.block.specs.Reading.{readBlock, measuresOf}
+use Rattle.block.specs.Reserved.{clearedByte, clearedBody}
 
--- A block read by itself is never dropped for D4.
-abbrev pub Never-unmeasured : Type 0
-Never-unmeasured = (type specific : ℕ) (body : List ℕ) → readBlock type specific body ≡ Dropped unmeasured → ⊥
+-- A block read by itself is dropped for D1, D2 or D3 alone, never for D4.
+abbrev pub Own-reasons : Type 0
+Own-reasons =
+    (type specific : ℕ) (body : List ℕ) (reason : ℕ) → readBlock type specific body ≡ Dropped reason →
+    (badSize ≤ reason) × (reason ≤ badRate)
 
--- The six low bits of the type-specific byte, reserved, do not change what is read.
-abbrev pub Reserved-specific : Type 0
-Reserved-specific =
-    (type specific specific′ : ℕ) (body : List ℕ) → specific / 64 ≡ specific′ / 64 →
-    readBlock type specific body ≡ readBlock type specific′ body
+-- Two blocks that differ in reserved bits alone read the same.
+abbrev pub Reserved-ignored : Type 0
+Reserved-ignored =
+    (type specific specific′ : ℕ) (body body′ : List ℕ) → clearedByte type specific ≡ clearedByte type specific′ →
+    clearedBody type body ≡ clearedBody type body′ → readBlock type specific body ≡ readBlock type specific′ body′
 
--- In a block that is no 17 and no 18 the whole type-specific byte, reserved, does not change what is read.
-abbrev pub Reserved-byte : Type 0
-Reserved-byte =
-    (type : ℕ) → (type ≡ lossType → ⊥) → (type ≡ discardType → ⊥) →
-    (specific specific′ : ℕ) (body : List ℕ) → readBlock type specific body ≡ readBlock type specific′ body
+-- the answer is a 14 for this source
+pub record MeasuredFor (answer : BlockRead) (x : ℕ) : Type 0 where
+  pub block : Measurement
+  pub typed : answer ≡ Typed (Measured block)
+  pub source : block .source ≡ x
 
--- The two bytes after a 14's source, reserved, do not change what is read.
-abbrev pub Reserved-measurement : Type 0
-Reserved-measurement = (body : List ℕ) (a b : ℕ) → readMeasurement (set (set body 4 a) 5 b) ≡ readMeasurement body
-
--- The last two bytes of a 240, reserved, do not change what is read.
-abbrev pub Reserved-effective : Type 0
-Reserved-effective = (body : List ℕ) (a b : ℕ) → readEffective (set (set body 6 a) 7 b) ≡ readEffective body
+-- A source is measured exactly where the answer is a 14 for it.
+abbrev pub Measures-exactly : Type 0
+Measures-exactly =
+    (answer : BlockRead) (x : ℕ) → (measuresOf answer ≡ Source x → MeasuredFor answer x) × (MeasuredFor answer x → measuresOf answer ≡ Source x)

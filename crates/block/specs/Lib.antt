@@ -1,4 +1,6 @@
 pub mod Types
 pub mod Layouts
 pub mod Reading
+pub mod Reserved
 pub mod Laws
+pub mod Fields

@@ -5,9 +5,9 @@ use Prim.Native.Nat.{ℕ, _*_}
 use mathlib.Core.Bool.{Bool, cond, _&&_, _||_}
 use mathlib.Core.List.{List}
 use lib.Dec.{eqb, leb}
-use lib.ListN.{length}
+use lib.ListN.{length, getD, drop}
 use Rattle.refusal.specs.Answer.{unless}
-use Rattle.wire.specs.BigEndian.{be32, u16At}
+use Rattle.wire.specs.BigEndian.{be16}
 use Rattle.block.specs.declared.Block.{Block}
 use Rattle.block.specs.declared.Block.the-variants.{Measured, Loss, Discard, Effective, Streams}
 use Rattle.block.specs.declared.BlockRead.{BlockRead}
@@ -33,34 +33,29 @@ rateGood r = leb r rateMax || eqb r unavailable
 unfoldable pub flagGood : ℕ → Bool
 flagGood flag = leb 1 flag && leb flag 3
 
--- the reason to drop a 17 or 18 with this flag and these rates: D2, then D3; 0 where there is none
-unfoldable pub summaryFault : ℕ → ℕ → ℕ → ℕ
-summaryFault flag burst gap =
-    unless (flagGood flag) badFlag
-    (unless (rateGood burst && rateGood gap) badRate
-    0)
+-- what refusal 16 lets through: a flag and two rates that reading would not drop
+unfoldable pub summaryGood : ℕ → ℕ → ℕ → Bool
+summaryGood flag burst gap = flagGood flag && (rateGood burst && rateGood gap)
 
 -- D1
 abbrev pub sized : ℕ → List ℕ → BlockRead → BlockRead
 sized words body answer = unless (eqb (length body) (4 * words)) (Dropped badSize) answer
 
--- D1, D2 and D3 of a 17 or an 18 of this size in bytes, whose rates stand at the same place; 0 where there is none
-unfoldable pub summaryReason : ℕ → ℕ → List ℕ → ℕ
-summaryReason size specific body =
-    unless (eqb (length body) size) badSize
-    (summaryFault (flagIn specific) (u16At body 4) (u16At body 6))
-
-abbrev pub reasoned : ℕ → BlockRead → BlockRead
-reasoned reason answer = unless (eqb reason 0) (Dropped reason) answer
+-- a 17 or 18 of its size with this flag and these rates: D2, then D3, then the block
+unfoldable pub summaryRead : ℕ → ℕ → ℕ → Block → BlockRead
+summaryRead flag burst gap b =
+    unless (flagGood flag) (Dropped badFlag)
+    (unless (rateGood burst && rateGood gap) (Dropped badRate)
+    (Typed b))
 
 unfoldable pub readMeasurement : List ℕ → BlockRead
 readMeasurement body = sized measurementWords body (Typed (Measured (measurementIn body)))
 
 unfoldable pub readLoss : ℕ → List ℕ → BlockRead
-readLoss specific body = reasoned (summaryReason (4 * lossWords) specific body) (Typed (Loss (lossIn specific body)))
+readLoss specific body = sized lossWords body (summaryRead (flagIn specific) (be16 body 4) (be16 body 6) (Loss (lossIn specific body)))
 
 unfoldable pub readDiscard : ℕ → List ℕ → BlockRead
-readDiscard specific body = reasoned (summaryReason (4 * discardWords) specific body) (Typed (Discard (discardIn specific body)))
+readDiscard specific body = sized discardWords body (summaryRead (flagIn specific) (be16 body 4) (be16 body 6) (Discard (discardIn specific body)))
 
 unfoldable pub readEffective : List ℕ → BlockRead
 readEffective body = sized effectiveWords body (Typed (Effective (effectiveIn body)))
@@ -77,6 +72,10 @@ readBlock type specific body =
     (cond (eqb type streamsType) (readStreams body)
     Unknown))))
 
+-- a block by its own bytes: type, type-specific byte, two bytes of block length, body. Fewer than four are no block.
+unfoldable pub readBytes : List ℕ → BlockRead
+readBytes bytes = unless (leb 4 (length bytes)) Unknown (readBlock (getD bytes 0 0) (getD bytes 1 0) (drop 4 bytes))
+
 -- what a typed block needs in its packet: a 17 or 18 needs a block 14 for its source (D4)
 abbrev pub needsOf : Block → Needs
 needsOf (Measured m) = Nothing
@@ -86,8 +85,11 @@ needsOf (Effective e) = Nothing
 needsOf (Streams t) = Nothing
 
 -- what a block measures: the source of a well-sized 14
-unfoldable pub measuredBy : ℕ → List ℕ → Measures
-measuredBy type body =
-    unless (eqb type measurementType) Measures·Nothing
-    (unless (eqb (length body) (4 * measurementWords)) Measures·Nothing
-    (Source (be32 body 0)))
+abbrev pub measuresOf : BlockRead → Measures
+measuresOf (Typed (Measured m)) = Source (m .source)
+measuresOf (Typed (Loss l)) = Measures·Nothing
+measuresOf (Typed (Discard d)) = Measures·Nothing
+measuresOf (Typed (Effective e)) = Measures·Nothing
+measuresOf (Typed (Streams t)) = Measures·Nothing
+measuresOf Unknown = Measures·Nothing
+measuresOf (Dropped reason) = Measures·Nothing

@@ -3,7 +3,7 @@
 use std::num::wrapping_sub_u16;
 ghost use mathlib.Core.Path.{_≡_};
 ghost use Rattle.block.specs.Layouts.{covered};
-ghost use Rattle.block.specs.Reading.{rateGood, flagGood, summaryFault, summaryReason, readMeasurement, readLoss, readDiscard, readEffective, readStreams, readBlock, needsOf, measuredBy};
+ghost use Rattle.block.specs.Reading.{rateGood, flagGood, summaryGood, summaryRead, readMeasurement, readLoss, readDiscard, readEffective, readStreams, readBlock, readBytes, needsOf, measuresOf};
 
 pub const MEASUREMENT: u8 = 14;
 
@@ -15,15 +15,27 @@ pub const EFFECTIVE: u8 = 240;
 
 pub const STREAMS: u8 = 241;
 
-pub const MEASUREMENT_BYTES: usize = 28;
+// The words after a block's first: its block length.
+pub const MEASUREMENT_WORDS: u16 = 7;
 
-pub const LOSS_BYTES: usize = 12;
+pub const LOSS_WORDS: u16 = 3;
 
-pub const DISCARD_BYTES: usize = 8;
+pub const DISCARD_WORDS: u16 = 2;
 
-pub const EFFECTIVE_BYTES: usize = 8;
+pub const EFFECTIVE_WORDS: u16 = 2;
 
-pub const STREAMS_BYTES: usize = 44;
+pub const STREAMS_WORDS: u16 = 11;
+
+// The same in bytes: the size of the body.
+pub const MEASUREMENT_BYTES: usize = 4 * MEASUREMENT_WORDS as usize;
+
+pub const LOSS_BYTES: usize = 4 * LOSS_WORDS as usize;
+
+pub const DISCARD_BYTES: usize = 4 * DISCARD_WORDS as usize;
+
+pub const EFFECTIVE_BYTES: usize = 4 * EFFECTIVE_WORDS as usize;
+
+pub const STREAMS_BYTES: usize = 4 * STREAMS_WORDS as usize;
 
 // The reasons to drop a block, D1 to D4.
 pub const BAD_SIZE: u8 = 1;
@@ -203,7 +215,17 @@ pub fn read(kind: u8, specific: u8, body: &[u8]) -> BlockRead
     }
 }
 
-pub fn read_measurement(body: &[u8]) -> BlockRead
+// One block by itself, from its own bytes: type, type-specific byte, two bytes of block length, body.
+pub fn read_bytes(bytes: &[u8]) -> BlockRead
+    ensures { λ r. ⌜ r ≡ readBytes (now (bytes .entry)) ⌝ }
+{
+    if bytes.len() < 4 {
+        return BlockRead::Unknown;
+    }
+    read(bytes[0], bytes[1], &bytes[4..])
+}
+
+fn read_measurement(body: &[u8]) -> BlockRead
     ensures { λ r. ⌜ r ≡ readMeasurement (now (body .entry)) ⌝ }
 {
     if body.len() != MEASUREMENT_BYTES {
@@ -220,39 +242,39 @@ pub fn read_measurement(body: &[u8]) -> BlockRead
     }))
 }
 
-pub fn read_loss(specific: u8, body: &[u8]) -> BlockRead
+fn read_loss(specific: u8, body: &[u8]) -> BlockRead
     ensures { λ r. ⌜ r ≡ readLoss specific (now (body .entry)) ⌝ }
 {
-    let reason = summary_reason(LOSS_BYTES, specific, body);
-    if reason != 0 {
-        return BlockRead::Dropped(reason);
+    if body.len() != LOSS_BYTES {
+        return BlockRead::Dropped(BAD_SIZE);
     }
-    BlockRead::Typed(Block::Loss(LossSummary {
+    let l = LossSummary {
         flag: specific / 64,
         source: wire::u32_at(body, 0),
         burst_rate: wire::u16_at(body, 4),
         gap_rate: wire::u16_at(body, 6),
         burst_mean: wire::u16_at(body, 8),
         burst_variance: wire::u16_at(body, 10),
-    }))
+    };
+    judge_summary(l.flag, l.burst_rate, l.gap_rate, Block::Loss(l))
 }
 
-pub fn read_discard(specific: u8, body: &[u8]) -> BlockRead
+fn read_discard(specific: u8, body: &[u8]) -> BlockRead
     ensures { λ r. ⌜ r ≡ readDiscard specific (now (body .entry)) ⌝ }
 {
-    let reason = summary_reason(DISCARD_BYTES, specific, body);
-    if reason != 0 {
-        return BlockRead::Dropped(reason);
+    if body.len() != DISCARD_BYTES {
+        return BlockRead::Dropped(BAD_SIZE);
     }
-    BlockRead::Typed(Block::Discard(DiscardSummary {
+    let d = DiscardSummary {
         flag: specific / 64,
         source: wire::u32_at(body, 0),
         burst_rate: wire::u16_at(body, 4),
         gap_rate: wire::u16_at(body, 6),
-    }))
+    };
+    judge_summary(d.flag, d.burst_rate, d.gap_rate, Block::Discard(d))
 }
 
-pub fn read_effective(body: &[u8]) -> BlockRead
+fn read_effective(body: &[u8]) -> BlockRead
     ensures { λ r. ⌜ r ≡ readEffective (now (body .entry)) ⌝ }
 {
     if body.len() != EFFECTIVE_BYTES {
@@ -264,7 +286,7 @@ pub fn read_effective(body: &[u8]) -> BlockRead
     }))
 }
 
-pub fn read_streams(body: &[u8]) -> BlockRead
+fn read_streams(body: &[u8]) -> BlockRead
     ensures { λ r. ⌜ r ≡ readStreams (now (body .entry)) ⌝ }
 {
     if body.len() != STREAMS_BYTES {
@@ -286,30 +308,28 @@ pub fn read_streams(body: &[u8]) -> BlockRead
     }))
 }
 
-// Why a 17 or 18, whose size in bytes is given, is dropped: D1, D2, D3, or 0 where it is good.
-pub fn summary_reason(size: usize, specific: u8, body: &[u8]) -> u8
-    ensures { λ r. ⌜ r ≡ summaryReason size specific (now (body .entry)) ⌝ }
-{
-    if body.len() != size {
-        return BAD_SIZE;
-    }
-    summary_fault(specific / 64, wire::u16_at(body, 4), wire::u16_at(body, 6))
-}
-
-// Why a summary with this interval flag and these rates is dropped: D2, D3, or 0 where it is good.
-pub fn summary_fault(flag: u8, burst_rate: u16, gap_rate: u16) -> u8
-    ensures { λ r. ⌜ r ≡ summaryFault flag «burst_rate» «gap_rate» ⌝ }
+// A 17 or 18 of its size, with this interval flag and these rates: dropped for D2 or D3, or typed.
+fn judge_summary(flag: u8, burst_rate: u16, gap_rate: u16, b: Block) -> BlockRead
+    ensures { λ r. ⌜ r ≡ summaryRead flag «burst_rate» «gap_rate» b ⌝ }
 {
     if !flag_good(flag) {
-        return BAD_FLAG;
+        return BlockRead::Dropped(BAD_FLAG);
     }
     if !(rate_good(burst_rate) & rate_good(gap_rate)) {
-        return BAD_RATE;
+        return BlockRead::Dropped(BAD_RATE);
     }
-    0
+    BlockRead::Typed(b)
 }
 
-fn flag_good(flag: u8) -> bool
+// Whether a 17 or 18 with this interval flag and these rates may be written: reading would not drop it.
+pub fn summary_good(flag: u8, burst_rate: u16, gap_rate: u16) -> bool
+    ensures { λ r. ⌜ r ≡ summaryGood flag «burst_rate» «gap_rate» ⌝ }
+{
+    flag_good(flag) & (rate_good(burst_rate) & rate_good(gap_rate))
+}
+
+// Whether an interval flag is one that reading lets through.
+pub fn flag_good(flag: u8) -> bool
     ensures { λ t. ⌜ t ≡ flagGood flag ⌝ }
 {
     (1 <= flag) & (flag <= 3)
@@ -332,17 +352,17 @@ pub fn needed_by(b: Block) -> Needs
     }
 }
 
-// What a block of this type and body measures.
-pub fn measured_by(kind: u8, body: &[u8]) -> Measures
-    ensures { λ r. ⌜ r ≡ measuredBy kind (now (body .entry)) ⌝ }
+// What a block with these bytes measures. It is asked of every block of a packet, so it reads the source alone.
+pub fn measured_by(bytes: &[u8]) -> Measures
+    ensures { λ r. ⌜ r ≡ measuresOf (readBytes (now (bytes .entry))) ⌝ }
 {
-    if kind != MEASUREMENT {
+    if bytes.len() != 4 + MEASUREMENT_BYTES {
         return Measures::Nothing;
     }
-    if body.len() != MEASUREMENT_BYTES {
+    if bytes[0] != MEASUREMENT {
         return Measures::Nothing;
     }
-    Measures::Source(wire::u32_at(body, 0))
+    Measures::Source(wire::u32_at(bytes, 4))
 }
 
 // The packets that a block 241 covers, over the wrap of 16-bit sequence numbers.

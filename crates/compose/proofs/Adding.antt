@@ -1,27 +1,33 @@
--- The cases of a new packet and of adding a block, answer and buffer together, in the order of the refusals.
--- Assumes nothing.
-use Prim.Native.Nat.{ℕ, _+_, _*_, _<_, _≤_}
+-- The cases of a new packet, of appending words and of adding a block, in the order of the refusals; and the buffer
+-- afterwards. Assumes nothing.
+use Prim.Native.Nat.{ℕ, _+_, _-_, _*_, _/_, _<_, _≤_}
 use mathlib.Core.Path.{_≡_, refl, sym, ap, ap₂, _∙_}
-use mathlib.Core.Bool.{true, false}
+use mathlib.Core.Bool.{true}
 use mathlib.Core.List.{List, _++_, append-assoc}
 use native.Mathlib.Omega.{arith}
-use borrow.Author.Tests.{le-leb, lt-leb}
+use borrow.Author.Tests.{le-leb, lt-leb, leb-true}
+use lib.Dec.{leb}
 use lib.ListN.{length, take, drop, length-append}
 use lib.Seq.{length-take-le, take-append-le, drop-append-le}
-use Rattle.refusal.specs.Table.{bufferShort, blockValue, packetFull}
-use Rattle.refusal.specs.Answer.{after}
+use Rattle.refusal.specs.Table.{bufferShort, packetFull}
+use Rattle.refusal.specs.Answer.{unless, after}
 use Rattle.refusal.specs.declared.Refusal.{Refusal}
+use Rattle.refusal.specs.declared.Judged.{Judged}
+use Rattle.refusal.specs.declared.Judged.the-variants.{Accepted, Refused as Judged·Refused}
 use Rattle.refusal.specs.declared.Written.{Written}
 use Rattle.refusal.specs.declared.Written.the-variants.{Size, Refused}
-use Rattle.wire.specs.BigEndian.{be16, bytes16, bytes32, placed}
+use Rattle.refusal.proofs.Tests.{passed}
+use Rattle.wire.specs.BigEndian.{bytes16, bytes32, placed}
 use Rattle.wire.proofs.Placed.{placed-in, length-placed, placed-more}
 use Rattle.block.specs.declared.Block.{Block}
-use Rattle.encode.specs.Words.{wordsOf, bytesOf, writable}
-use Rattle.encode.proofs.Storing.{long}
+use Rattle.encode.specs.Words.{wordsOf, inBytes, bytesOf}
+use Rattle.encode.proofs.Storing.{length-in-bytes}
+use Rattle.frame.specs.declared.Extent.the-variants.{Front}
 use Rattle.frame.specs.Frames.{Entry, firstBlock}
-use Rattle.frame.specs.Packet.{Packet, good, bad}
-use Rattle.compose.specs.declared.Front.the-variants.{Length, Refused as Front·Refused}
-use Rattle.compose.specs.Writing.{newBytes, newAnswer, sizeIn, frontPacket, lengthAfter, lengthMax, sizeAfter, addAnswer, grown, frontFound}
+use Rattle.frame.specs.Packet.{Packet, good, bad, sizeIn, frontPacket}
+use Rattle.frame.proofs.FirstBytes.{head-facts, head-bounds}
+use Rattle.frame.proofs.Filling.{packet-exactly}
+use Rattle.compose.specs.Writing.{newBytes, newAnswer, lengthAfter, lengthMax, sizeAfter, appended, appendAnswer, grown, addAnswer}
 
 -- a new packet
 abbrev pub Made : List ℕ → ℕ → Written → List ℕ → Type 0
@@ -36,32 +42,73 @@ made s sender out h e =
     rw (le-leb firstBlock (length s) h)
     (refl, e ∙ placed-more s 0 (bytes32 2161049601) (bytes32 sender) h ∙ placed-in s 0 (bytes32 2161049601 ++ bytes32 sender) h)
 
--- adding a block
-abbrev pub Added : List ℕ → Block → Written → List ℕ → Type 0
-Added s b r out = (r ≡ addAnswer s b) × (out ≡ after (addAnswer s b) (grown s b) s)
+-- a packet at the front is at least eight bytes long, and inside the buffer
+pub front-bounds : (s : List ℕ) (sender : ℕ) (es : List Entry) → frontPacket s ≡ good sender es → (firstBlock ≤ sizeIn s) × (sizeIn s ≤ length s)
+front-bounds s sender es p =
+    let m = packet-exactly Front s sender es .0 p in
+    rw (head-facts Front s sender (m .size) (m .header) .field) (head-bounds Front s sender (m .size) (m .header))
 
--- a packet at the front that is refused
-pub no-front : (s : List ℕ) (b : Block) (r : Refusal) → Front·Refused r ≡ frontFound (frontPacket s) s → Added s b (Refused r) s
-unfolding addAnswer
-no-front s b r h = go (frontPacket s) refl h
-  where
-    go : (p : Packet) → frontPacket s ≡ p → Front·Refused r ≡ frontFound p s → Added s b (Refused r) s
-    go (good sender es) e f = let z : _≡_ {A = ℕ} 0 1 = cc in absurd (omega arith)
-    go (bad r′) e f = let same : r ≡ r′ = cc in rw (e, same) (refl, refl)
+pub front-room : (s : List ℕ) (sender : ℕ) (es : List Entry) → frontPacket s ≡ good sender es → firstBlock ≤ length s
+front-room s sender es p = let b = front-bounds s sender es p in omega arith
 
--- a good packet at the front, with its length field
-pub record Good (s : List ℕ) (n : ℕ) : Type 0 where
+-- the cases of appending n words
+module _ (s : List ℕ) (own : Judged) (n : ℕ) where
+  pub front-bad : (r : Refusal) → frontPacket s ≡ bad r → Refused r ≡ appendAnswer s own n
+  unfolding appendAnswer
+  front-bad r p = rw p
+
+  module _ (sender : ℕ) (es : List Entry) (p : frontPacket s ≡ good sender es) where
+    pub own-bad : (r : Refusal) → own ≡ Judged·Refused r → Refused r ≡ appendAnswer s own n
+    unfolding appendAnswer
+    own-bad r o = rw (p, o)
+
+    module _ (o : own ≡ Accepted) where
+      pub full : lengthMax < lengthAfter s n → Refused packetFull ≡ appendAnswer s own n
+      unfolding appendAnswer
+      full h = rw (p, o, lt-leb (lengthAfter s n) lengthMax h)
+
+      module _ (few : lengthAfter s n ≤ lengthMax) where
+        pub no-room : length s < sizeAfter s n → Refused bufferShort ≡ appendAnswer s own n
+        unfolding appendAnswer
+        no-room h = rw (p, o, le-leb (lengthAfter s n) lengthMax few, lt-leb (sizeAfter s n) (length s) h)
+
+        pub has-room : sizeAfter s n ≤ length s → Size (sizeAfter s n) ≡ appendAnswer s own n
+        unfolding appendAnswer
+        has-room h = rw (p, o, le-leb (lengthAfter s n) lengthMax few, le-leb (sizeAfter s n) (length s) h)
+
+-- what a good answer has
+pub record Fit (s : List ℕ) (own : Judged) (n size : ℕ) : Type 0 where
   pub sender : ℕ
   pub blocks : List Entry
-  pub is : frontPacket s ≡ good sender blocks
-  pub field : n ≡ be16 s 2
+  pub packet : frontPacket s ≡ good sender blocks
+  pub accepted : own ≡ Accepted
+  pub few : lengthAfter s n ≤ lengthMax
+  pub room : sizeAfter s n ≤ length s
+  pub is : size ≡ sizeAfter s n
 
-pub good-front : (s : List ℕ) (n : ℕ) → Length n ≡ frontFound (frontPacket s) s → Good s n
-good-front s n h = go (frontPacket s) refl h
+pub fit : (s : List ℕ) (own : Judged) (n size : ℕ) → appendAnswer s own n ≡ Size size → Fit s own n size
+unfolding appendAnswer
+fit s own n size h = go (frontPacket s) own refl refl h
   where
-    go : (p : Packet) → frontPacket s ≡ p → Length n ≡ frontFound p s → Good s n
-    go (good sender es) e f = record { sender = sender; blocks = es; is = e; field = cc }
-    go (bad r) e f = let z : _≡_ {A = ℕ} 0 1 = cc in absurd (omega arith)
+    past-no : (t : _) (r : Refusal) (rest : Written) → unless t (Refused r) rest ≡ Size size → (t ≡ true) × (rest ≡ Size size)
+    past-no t r rest e = passed t (Refused r) rest (Size size) (λ x. let z : _≡_ {A = ℕ} 0 1 = cc in omega arith) e
+
+    go : (p : Packet) (j : Judged) → frontPacket s ≡ p → own ≡ j → appended p j s n ≡ Size size → Fit s own n size
+    go (bad r) j p o e = let z : _≡_ {A = ℕ} 0 1 = cc in absurd (omega arith)
+    go (good sender es) (Judged·Refused r) p o e = let z : _≡_ {A = ℕ} 0 1 = cc in absurd (omega arith)
+    go (good sender es) Accepted p o e =
+        let one = past-no (leb (lengthAfter s n) lengthMax) packetFull _ e in
+        let two = past-no (leb (sizeAfter s n) (length s)) bufferShort _ (one .1) in
+        let last = two .1 in
+        record {
+          sender = sender;
+          blocks = es;
+          packet = p;
+          accepted = o;
+          few = leb-true (lengthAfter s n) lengthMax (one .0);
+          room = leb-true (sizeAfter s n) (length s) (two .0);
+          is = cc;
+        }
 
 -- bytes behind the first `size`, then two bytes at 2: what the buffer holds
 both-placed : (s : List ℕ) (size : ℕ) (bytes : List ℕ) (field : ℕ) → 4 ≤ size → size + length bytes ≤ length s →
@@ -93,38 +140,30 @@ both-placed s size bytes field h room =
         drop-append-le 4 (p ++ bytes) rest (omega (arith, long-both))
         ∙ ap (λ (x : List ℕ). x ++ rest) (drop-append-le 4 p bytes (omega (arith, long-p)))
 
-module _ (s : List ℕ) (b : Block) (n : ℕ) (g : Good s n) where
-  pub bad-value : writable b ≡ false → Added s b (Refused blockValue) s
-  unfolding addAnswer
-  bad-value w = rw (g .is, w) (refl, refl)
+-- the words behind the packet, and its length field anew, are the buffer that is promised
+pub placed-words : (s : List ℕ) (own : Judged) (words : List ℕ) (size : ℕ) → Fit s own (length words) size →
+    placed (placed s (sizeIn s) (inBytes words)) 2 (bytes16 (lengthAfter s (length words))) ≡ grown s words ++ drop size s
+placed-words s own words size f =
+    let low = front-bounds s (f .sender) (f .blocks) (f .packet) .0 in
+    let bytes = length-in-bytes words in
+    let room = f .room in
+    let is = f .is in
+    let end : sizeIn s + length (inBytes words) ≡ size = omega arith in
+    both-placed s (sizeIn s) (inBytes words) (lengthAfter s (length words)) (omega arith) (omega arith)
+    ∙ ap (λ (k : ℕ). grown s words ++ drop k s) end
 
-  module _ (w : writable b ≡ true) (count : ℕ) (c : count ≡ length (wordsOf b)) where
-    same : lengthAfter s b ≡ n + count
-    same = let f = g .field in omega arith
+-- adding a block: the answer and the buffer
+abbrev pub Wrote : List ℕ → Block → Written → List ℕ → Type 0
+Wrote s b r out = (r ≡ addAnswer s b) × (out ≡ after (addAnswer s b) (grown s (wordsOf b)) s)
 
-    pub full : lengthMax < n + count → Added s b (Refused packetFull) s
-    unfolding addAnswer
-    full h = let e = same in rw (g .is, w, lt-leb (lengthAfter s b) lengthMax (omega arith)) (refl, refl)
+pub not-added : (s : List ℕ) (b : Block) (r : Refusal) → addAnswer s b ≡ Refused r → Wrote s b (Refused r) s
+not-added s b r e = rw e (refl, refl)
 
-    module _ (fits : n + count ≤ lengthMax) where
-      pub no-room : length s < 4 * (n + count + 1) → Added s b (Refused bufferShort) s
-      unfolding addAnswer
-      no-room h =
-          let e = same in
-          rw (g .is, w, le-leb (lengthAfter s b) lengthMax (omega arith), lt-leb (sizeAfter s b) (length s) (omega arith)) (refl, refl)
-
-      pub wrote : 4 * (n + count + 1) ≤ length s → (out out′ : List ℕ) → out ≡ placed s (4 * (n + 1)) (bytesOf b) → out′ ≡ placed out 2 (bytes16 (n + count)) →
-          Added s b (Size (4 * (n + count + 1))) out′
-      unfolding addAnswer
-      wrote h out out′ p q =
-          let e = same in
-          let size : 4 * (n + count + 1) ≡ sizeAfter s b = omega arith in
-          let f = g .field in
-          let start : 4 * (n + 1) ≡ sizeIn s = omega arith in
-          let l = long b in
-          let end : sizeIn s + length (bytesOf b) ≡ sizeAfter s b = omega arith in
-          rw (g .is, w, le-leb (lengthAfter s b) lengthMax (omega arith), le-leb (sizeAfter s b) (length s) (omega arith)) (
-            ap Size size,
-            q ∙ ap₂ (λ (x : List ℕ) (k : ℕ). placed x 2 (bytes16 k)) p (sym e) ∙ ap (λ (k : ℕ). placed (placed s k (bytesOf b)) 2 (bytes16 (lengthAfter s b))) start
-                ∙ both-placed s (sizeIn s) (bytesOf b) (lengthAfter s b) (omega arith) (omega arith) ∙ ap (λ (k : ℕ). grown s b ++ drop k s) end,
-          )
+pub added : (s : List ℕ) (b : Block) (own : Judged) (count size : ℕ) (out out′ : List ℕ) → count ≡ length (wordsOf b) → (f : Fit s own count size) → addAnswer s b ≡ Size size →
+    out ≡ placed s (size - 4 * count) (bytesOf b) → out′ ≡ placed out 2 (bytes16 (size / 4 - 1)) → Wrote s b (Size size) out′
+unfolding bytesOf
+added s b own count size out out′ c f e p q =
+    let is = f .is in
+    let start : size - 4 * count ≡ sizeIn s = omega arith in
+    let field : size / 4 - 1 ≡ lengthAfter s (length (wordsOf b)) = omega arith in
+    rw e (refl, q ∙ rw (p, start, field) (placed-words s own (wordsOf b) size (rw (← c) f)))

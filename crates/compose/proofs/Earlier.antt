@@ -1,52 +1,29 @@
--- The blocks that were there before one was added: `Earlier-kept` of specs/Laws.antt. Assumes nothing.
-use Prim.Native.Nat.{ℕ, zero, suc, _+_, _<_}
-use mathlib.Core.Path.{_≡_, refl, sym, ap, _∙_}
+-- The blocks that were there before one was appended: `Earlier-kept` of specs/Laws.antt. Assumes nothing.
+use Prim.Native.Nat.{ℕ, _<_}
+use mathlib.Core.Path.{_≡_, refl, ap, _∙_}
 use mathlib.Core.Bool.{Bool, true, false, _||_}
 use mathlib.Core.Logic.{_⊎_, inl, inr}
 use mathlib.Core.List.{List, [], _∷_, _++_}
 use native.Mathlib.Omega.{arith}
 use lib.ListN.{length}
 use Rattle.block.specs.Types.{unmeasured}
-use Rattle.block.specs.Reading.{readBlock, needsOf}
+use Rattle.block.specs.Reading.{needsOf}
 use Rattle.block.specs.declared.Block.{Block}
 use Rattle.block.specs.declared.BlockRead.{BlockRead}
 use Rattle.block.specs.declared.BlockRead.the-variants.{Typed, Unknown, Dropped}
 use Rattle.block.specs.declared.Needs.{Needs}
 use Rattle.block.specs.declared.Needs.the-variants.{Nothing, MeasurementOf}
 use Rattle.frame.specs.Frames.{Entry}
-use Rattle.frame.specs.Packet.{good}
-use Rattle.packet.specs.Blocks.{measures, measured, judged, readIn}
-use Rattle.packet.specs.Answers.{pick, blockOf, pickBody, pickStart}
+use Rattle.frame.specs.Packet.{Numbered, none, one, good, numbered}
+use Rattle.frame.proofs.Numbering.{number-front}
+use Rattle.packet.specs.Blocks.{readAlone, measures, measured, judged}
+use Rattle.packet.specs.Answers.{found, bodyIn, startIn}
 use Rattle.packet.specs.declared.BlockAt.the-variants.{Found}
-use Rattle.compose.specs.Laws.{Lifted, Earlier-kept}
+use Rattle.frame.specs.Packet.{sizeIn}
+use Rattle.compose.specs.Laws.{entryOf, Lifted, Kept, Earlier-kept}
+use Rattle.compose.proofs.Growing.{added-good}
 
-same-body : (es : List Entry) (e : Entry) (k : ℕ) → k < length es → pickBody (es ++ e ∷ []) k ≡ pickBody es k
-unfolding pickBody
-same-body [] e k h = absurd (omega arith)
-same-body (x ∷ es) e zero h = refl
-same-body (x ∷ es) e (suc k) h = same-body es e k (omega arith)
-
-same-start : (es : List Entry) (e : Entry) (k : ℕ) → k < length es → pickStart (es ++ e ∷ []) k ≡ pickStart es k
-unfolding pickStart
-same-start [] e k h = absurd (omega arith)
-same-start (x ∷ es) e zero h = refl
-same-start (x ∷ es) e (suc k) h = same-start es e k (omega arith)
-
--- block number k, whatever the packet that it is read in, with a block behind the list or without
-record Here (es : List Entry) (e : Entry) (k : ℕ) : Type 0 where
-  entry : Entry
-  found : (all : List Entry) → pick all es k ≡ Found (entry .kind) (readIn all entry)
-  behind : (all : List Entry) → pick all (es ++ e ∷ []) k ≡ Found (entry .kind) (readIn all entry)
-
-here : (es : List Entry) (e : Entry) (k : ℕ) → k < length es → Here es e k
-unfolding pick
-here [] e k h = absurd (omega arith)
-here (x ∷ es) e zero h = record { entry = x; found = λ all. refl; behind = λ all. refl }
-here (x ∷ es) e (suc k) h =
-    let r = here es e k (omega arith) in
-    record { entry = r .entry; found = r .found; behind = r .behind }
-
-measured-behind : (source : ℕ) (es : List Entry) (e : Entry) → measured source (es ++ e ∷ []) ≡ (measured source es || measures source e)
+pub measured-behind : (source : ℕ) (es : List Entry) (e : Entry) → measured source (es ++ e ∷ []) ≡ (measured source es || measures source e)
 unfolding measured
 measured-behind source [] e = go (measures source e)
   where
@@ -84,28 +61,35 @@ kept es e (Typed b) = go (needsOf b) refl
             inr (record { block = b; source = source; needs = q; measured-now = n; was = rw (q, o) refl; is = rw (q, measured-behind source es e, o, n) refl })
         turn false o false n = inl (rw (q, measured-behind source es e, o, n) refl)
 
--- the same of block number k
-module _ (sender : ℕ) (es : List Entry) (e : Entry) (k : ℕ) (r : Here es e k) where
-  own : BlockRead
-  own = readBlock (r .entry .kind) (r .entry .specific) (r .entry .body)
+-- the same of block number k of a packet
+kept-at : (sender : ℕ) (es : List Entry) (e : Entry) (k : ℕ) → k < length es → Kept (good sender es) (good sender (es ++ e ∷ [])) e k
+kept-at sender es e k h =
+    let same = number-front es (e ∷ []) k h in (
+      λ i. record { start = startIn (same i); length = length (bodyIn (same i)) },
+      ap bodyIn same,
+      go (numbered es k) refl,
+    )
+  where
+    by : (x : Entry) → numbered es k ≡ one x → (judged (es ++ e ∷ []) (readAlone x) ≡ judged es (readAlone x)) ⊎ Freed es e (readAlone x) →
+        (found (es ++ e ∷ []) (numbered (es ++ e ∷ []) k) ≡ found es (numbered es k)) ⊎ Lifted (good sender es) (good sender (es ++ e ∷ [])) e k
+    by x n (inl same) = inl (rw (number-front es (e ∷ []) k h, n) (ap (Found (x .kind)) same))
+    by x n (inr f) =
+        inr (record {
+          type = x .kind;
+          block = f .block;
+          source = f .source;
+          needs = f .needs;
+          measured-now = f .measured-now;
+          was = rw n (ap (Found (x .kind)) (f .was));
+          is = rw (number-front es (e ∷ []) k h, n) (ap (Found (x .kind)) (f .is));
+        })
 
-  kept-at : (judged (es ++ e ∷ []) own ≡ judged es own) ⊎ Freed es e own →
-      (blockOf (good sender (es ++ e ∷ [])) k ≡ blockOf (good sender es) k) ⊎ Lifted sender es e k
-  unfolding readIn own
-  kept-at (inl same) =
-      inl (r .behind (es ++ e ∷ []) ∙ ap (Found (r .entry .kind)) same ∙ sym (r .found es))
-  kept-at (inr f) =
-      inr (record {
-        type = r .entry .kind;
-        block = f .block;
-        source = f .source;
-        needs = f .needs;
-        measured-now = f .measured-now;
-        was = r .found es ∙ ap (Found (r .entry .kind)) (f .was);
-        is = r .behind (es ++ e ∷ []) ∙ ap (Found (r .entry .kind)) (f .is);
-      })
+    go : (n : Numbered) → numbered es k ≡ n →
+        (found (es ++ e ∷ []) (numbered (es ++ e ∷ []) k) ≡ found es (numbered es k)) ⊎ Lifted (good sender es) (good sender (es ++ e ∷ [])) e k
+    go none n = inl (rw (number-front es (e ∷ []) k h, n))
+    go (one x) n = by x n (kept es e (readAlone x))
 
 pub earlier-kept : Earlier-kept
-earlier-kept sender es e k h =
-    let r = here es e k h in
-    (λ i. record { start = same-start es e k h i; length = length (same-body es e k h i) }, same-body es e k h, kept-at sender es e k r (kept es e (own sender es e k r)))
+earlier-kept s own type specific body sender es n k a h =
+    let new = added-good s own type specific body sender es n a in
+    rw (a .packet, new .packet) (kept-at sender es (entryOf type specific body (sizeIn s)) k h)

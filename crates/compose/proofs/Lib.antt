@@ -1,5 +1,5 @@
-pub mod Fronts
 pub mod Adding
 pub mod Growing
-pub mod Kept
 pub mod Earlier
+pub mod Reading
+pub mod Again

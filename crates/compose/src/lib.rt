@@ -1,12 +1,14 @@
 // Report packets written: document 01, "Writing". A new packet, and a typed block added to the packet at the
 // front of a lent buffer, which may be longer than the packet.
 use block::Block;
-use packet::Opened;
-use refusal::Refusal;
+use frame::Extent;
+use frame::Located;
+use refusal::Judged;
 use refusal::Written;
 ghost use mathlib.Core.Path.{_≡_};
 ghost use Rattle.refusal.specs.Answer.{after};
-ghost use Rattle.compose.specs.Writing.{newBytes, newAnswer, frontPacket, frontFound, grown, addAnswer};
+ghost use Rattle.encode.specs.Words.{wordsOf};
+ghost use Rattle.compose.specs.Writing.{newBytes, newAnswer, appendAnswer, grown, ownOf, addAnswer};
 
 // 80 CF 00 01: version 2, no padding, type 207 and a length field of 1, the first word of a packet with no blocks.
 const EMPTY_FIRST_WORD: u32 = 2_161_049_601;
@@ -30,58 +32,47 @@ pub fn new_packet(out: &mut [u8], sender: u32) -> Written
 // there is walked once, as refusal 6 asks.
 pub fn add(out: &mut [u8], b: Block) -> Written
     ensures answer { λ r. ⌜ r ≡ addAnswer (now (out .entry)) b ⌝ }
-    ensures buffer { λ r. ⌜ now (out .exit) ≡ after (addAnswer (now (out .entry)) b) (grown (now (out .entry)) b) (now (out .entry)) ⌝ }
+    ensures buffer { λ r. ⌜ now (out .exit) ≡ after (addAnswer (now (out .entry)) b) (grown (now (out .entry)) (wordsOf b)) (now (out .entry)) ⌝ }
 {
-    match judge_front(out) {
-        Front::Length(field) => {
-            let length = field as usize;
-            if !encode::writable(b) {
-                return Written::Refused(refusal::BLOCK_VALUE);
-            }
-            let longer = length + encode::words(b).count;
-            if LENGTH_MAX < longer {
-                return Written::Refused(refusal::PACKET_FULL);
-            }
-            if out.len() < 4 * (longer + 1) {
-                return Written::Refused(refusal::BUFFER_SHORT);
-            }
-            encode::write(out, 4 * (length + 1), b);
-            wire::put_u16(out, 2, longer as u16);
-            Written::Size(4 * (longer + 1))
+    let count = encode::words(b).count;
+    match judge_append(out, judge_block(b), count) {
+        Written::Size(size) => {
+            encode::write(out, size - 4 * count, b);
+            wire::put_u16(out, 2, (size / 4 - 1) as u16);
+            Written::Size(size)
         }
-        Front::Refused(r) => Written::Refused(r),
+        Written::Refused(r) => Written::Refused(r),
     }
 }
 
-// What stands at the front of a buffer: a good packet, by its length field, or why there is none.
-enum Front {
-    Length(u16),
-    Refused(Refusal),
-}
-
-// The packet at the front of a buffer judged, its blocks too.
-fn judge_front(s: &[u8]) -> Front
-    ensures { λ r. ⌜ r ≡ frontFound (frontPacket (now (s .entry))) (now (s .entry)) ⌝ }
+// Whether a block of this many words, with its own refusals judged, can be appended to the packet at the front of s: the
+// packet's size with it, or why not.
+pub fn judge_append(s: &[u8], own: Judged, words: usize) -> Written
+    ensures { λ r. ⌜ r ≡ appendAnswer (now (s .entry)) own words ⌝ }
 {
-    if s.len() < frame::FIRST_BLOCK {
-        return Front::Refused(refusal::PACKET_SHORT);
+    if let Located::Refused(r) = frame::locate(s, Extent::Front, 0) {
+        return Written::Refused(r);
     }
-    if s[0] / 64 != 2 {
-        return Front::Refused(refusal::VERSION);
+    if let Judged::Refused(r) = own {
+        return Written::Refused(r);
     }
-    if s[1] != 207 {
-        return Front::Refused(refusal::PACKET_TYPE);
+    let length = wire::u16_at(s, 2) as usize;
+    if LENGTH_MAX - length < words {
+        return Written::Refused(refusal::PACKET_FULL);
     }
-    let field = wire::u16_at(s, 2);
-    let size = 4 * (field as usize + 1);
-    if size < frame::FIRST_BLOCK {
-        return Front::Refused(refusal::PACKET_LENGTH);
-    }
+    let size = 4 * (length + words + 1);
     if s.len() < size {
-        return Front::Refused(refusal::PACKET_LENGTH);
+        return Written::Refused(refusal::BUFFER_SHORT);
     }
-    match packet::open(&s[..size], 0) {
-        Opened::Blocks(_, _, _) => Front::Length(field),
-        Opened::Refused(r) => Front::Refused(r),
+    Written::Size(size)
+}
+
+// A typed block's own refusal: 16.
+fn judge_block(b: Block) -> Judged
+    ensures { λ r. ⌜ r ≡ ownOf b ⌝ }
+{
+    if !encode::writable(b) {
+        return Judged::Refused(refusal::BLOCK_VALUE);
     }
+    Judged::Accepted
 }

@@ -1,3 +1,4 @@
+pub mod Framing
 pub mod Storing
 pub mod ReadBack
 pub mod Again

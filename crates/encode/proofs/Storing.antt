@@ -9,9 +9,9 @@ use lib.Seq.{length-take-le, take-suc, take-at}
 use Rattle.wire.specs.BigEndian.{bytes32, placed}
 use Rattle.wire.proofs.Placed.{placed-out, placed-none, length-placed, placed-more}
 use Rattle.block.specs.declared.Block.{Block}
-use Rattle.block.specs.declared.Block.the-variants.{Measured, Loss, Discard, Effective, Streams}
 use Rattle.encode.specs.declared.BlockWords.{BlockWords}
 use Rattle.encode.specs.Words.{wordsOf, inBytes, bytesOf, filled}
+use Rattle.encode.proofs.Framing.{few-words}
 
 pub in-bytes-append : (xs ys : List ℕ) → inBytes (xs ++ ys) ≡ inBytes xs ++ inBytes ys
 in-bytes-append [] ys = refl
@@ -20,14 +20,6 @@ in-bytes-append (x ∷ xs) ys = ap (λ (r : List ℕ). bytes32 x ++ r) (in-bytes
 pub length-in-bytes : (xs : List ℕ) → length (inBytes xs) ≡ 4 * length xs
 length-in-bytes [] = refl
 length-in-bytes (x ∷ xs) = let rest = length-in-bytes xs in omega arith
-
--- no block has more than twelve words
-pub few-words : (b : Block) → length (wordsOf b) ≤ 12
-few-words (Measured m) = omega arith
-few-words (Loss l) = omega arith
-few-words (Discard d) = omega arith
-few-words (Effective e) = omega arith
-few-words (Streams t) = omega arith
 
 pub few : (b : Block) (made : BlockWords) → made ≡ filled (wordsOf b) → made .count ≤ 12
 few b made e = let n = few-words b in rw e (omega arith)

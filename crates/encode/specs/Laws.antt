@@ -1,19 +1,16 @@
--- What callers may lean on: a block written is read as itself, and a block read is written as it stood, but for
+-- What callers may lean on: a block written is read as itself, and a block read can be written, as it stood but for
 -- reserved bits. Statements about the definitions that the calls promise; proved in proofs/.
-use Prim.Native.Nat.{ℕ, _*_, _/_, _<_}
+use Prim.Native.Nat.{ℕ, _<_}
 use mathlib.Core.Path.{_≡_}
-use mathlib.Core.Bool.{true, cond, _||_}
-use mathlib.Core.List.{List, _∷_, _++_}
-use lib.Dec.{eqb}
-use lib.ListN.{length, getD, drop, set}
-use Rattle.wire.specs.BigEndian.{bytes16}
-use Rattle.block.specs.Types.{measurementType, lossType, discardType, effectiveType}
-use Rattle.block.specs.Reading.{readBlock}
+use mathlib.Core.Bool.{true}
+use mathlib.Core.List.{List}
+use lib.ListN.{getD}
+use Rattle.block.specs.Reading.{readBlock, readBytes}
+use Rattle.block.specs.Reserved.{clearedByte, clearedBody, blockBytes}
 use Rattle.block.specs.declared.Block.{Block}
 use Rattle.block.specs.declared.Block.the-variants.{Measured, Loss, Discard, Effective, Streams}
-use Rattle.block.specs.declared.BlockRead.{BlockRead}
 use Rattle.block.specs.declared.BlockRead.the-variants.{Typed}
-use Rattle.encode.specs.Words.{bytesOf, writable}
+use Rattle.encode.specs.Words.{typeOf, bytesOf, writable}
 
 -- numbers of 16 and of 32 bits
 abbrev pub Half : ℕ → Type 0
@@ -33,27 +30,11 @@ Fits (Effective e) = Word (e .source) × Half (e .index)
 Fits (Streams t) =
     Word (t .source) × Half (t .begin) × Half (t .end) × Word (t .streams) × Word (t .«sync_losses») × Word (t .«sync_byte_errors») × Word (t .«continuity_errors») × Word (t .«transport_errors») × Word (t .«pcr_errors») × Word (t .«pcr_repetition_errors») × Word (t .«pcr_discontinuity_errors») × Word (t .«pts_errors»)
 
--- a block's bytes read by themselves: type, type-specific byte, and the body after the first word
-abbrev pub readBytes : List ℕ → BlockRead
-readBytes bytes = readBlock (getD bytes 0 0) (getD bytes 1 0) (drop 4 bytes)
-
 -- Each block that may be written is, read by itself, the same block again.
 abbrev pub Read-back : Type 0
 Read-back = (b : Block) → Fits b → writable b ≡ true → readBytes (bytesOf b) ≡ Typed b
 
--- reserved bits made zero: those of the type-specific byte, and the words of a 14 and a 240
-abbrev pub clearedByte : ℕ → ℕ → ℕ
-clearedByte type specific = cond (eqb type lossType || eqb type discardType) (specific / 64 * 64) 0
-
-abbrev pub clearedBody : ℕ → List ℕ → List ℕ
-clearedBody type body =
-    cond (eqb type measurementType) (set (set body 4 0) 5 0)
-    (cond (eqb type effectiveType) (set (set body 6 0) 7 0)
-    body)
-
-abbrev pub blockBytes : ℕ → ℕ → List ℕ → List ℕ
-blockBytes type specific body = (type ∷ specific ∷ bytes16 (length body / 4)) ++ body
-
+-- every element is a byte
 abbrev pub Bytes : List ℕ → Type 0
 Bytes s = (i : ℕ) → getD s i 0 < 256
 
@@ -62,3 +43,9 @@ abbrev pub Written-again : Type 0
 Written-again =
     (type specific : ℕ) (body : List ℕ) (b : Block) → specific < 256 → Bytes body → readBlock type specific body ≡ Typed b →
     bytesOf b ≡ blockBytes type (clearedByte type specific) (clearedBody type body)
+
+-- A block that was read as typed can be written: it is let through, its fields fit, and it has the type that was read.
+abbrev pub Typed-writable : Type 0
+Typed-writable =
+    (type specific : ℕ) (body : List ℕ) (b : Block) → specific < 256 → Bytes body → readBlock type specific body ≡ Typed b →
+    (writable b ≡ true) × Fits b × (typeOf b ≡ type)

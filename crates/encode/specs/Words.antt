@@ -4,11 +4,10 @@
 use Prim.Native.Nat.{ℕ, _+_, _-_, _*_, _%_}
 use mathlib.Core.Bool.{Bool, true}
 use mathlib.Core.List.{List, [], _∷_, _++_}
-use lib.Dec.{eqb}
 use lib.ListN.{length, replicate}
 use Rattle.wire.specs.BigEndian.{bytes32}
-use Rattle.block.specs.Types.{measurementType, lossType, discardType, effectiveType, streamsType, measurementWords, lossWords, discardWords, effectiveWords, streamsWords}
-use Rattle.block.specs.Reading.{summaryFault}
+use Rattle.block.specs.Types.{measurementType, lossType, discardType, effectiveType, streamsType}
+use Rattle.block.specs.Reading.{summaryGood}
 use Rattle.block.specs.declared.Block.{Block}
 use Rattle.block.specs.declared.Block.the-variants.{Measured, Loss, Discard, Effective, Streams}
 use Rattle.encode.specs.declared.BlockWords.{BlockWords}
@@ -24,16 +23,37 @@ firstWord type specific blockLength = halves (type * 256 + specific) blockLength
 abbrev pub flagByte : ℕ → ℕ
 flagByte flag = flag % 4 * 64
 
+abbrev pub typeOf : Block → ℕ
+typeOf (Measured m) = measurementType
+typeOf (Loss l) = lossType
+typeOf (Discard d) = discardType
+typeOf (Effective e) = effectiveType
+typeOf (Streams t) = streamsType
+
+abbrev pub specificOf : Block → ℕ
+specificOf (Measured m) = 0
+specificOf (Loss l) = flagByte (l .flag)
+specificOf (Discard d) = flagByte (d .flag)
+specificOf (Effective e) = 0
+specificOf (Streams t) = 0
+
+-- the words after the first
+abbrev pub bodyWords : Block → List ℕ
+bodyWords (Measured m) =
+    m .source ∷ halves 0 (m .first) ∷ m .«extended_first» ∷ m .«extended_last» ∷ m .interval ∷ m .seconds ∷ m .fraction ∷ []
+bodyWords (Loss l) =
+    l .source ∷ halves (l .«burst_rate») (l .«gap_rate») ∷ halves (l .«burst_mean») (l .«burst_variance») ∷ []
+bodyWords (Discard d) = d .source ∷ halves (d .«burst_rate») (d .«gap_rate») ∷ []
+bodyWords (Effective e) = e .source ∷ halves (e .index) 0 ∷ []
+bodyWords (Streams t) =
+    t .source ∷ halves (t .begin) (t .end) ∷ t .streams ∷ t .«sync_losses» ∷ t .«sync_byte_errors» ∷ t .«continuity_errors» ∷ t .«transport_errors» ∷ t .«pcr_errors» ∷ t .«pcr_repetition_errors» ∷ t .«pcr_discontinuity_errors» ∷ t .«pts_errors» ∷ []
+
+-- the block length is the number of the words after the first
+abbrev pub blockWords : ℕ → ℕ → List ℕ → List ℕ
+blockWords type specific body = firstWord type specific (length body) ∷ body
+
 abbrev pub wordsOf : Block → List ℕ
-wordsOf (Measured m) =
-    firstWord measurementType 0 measurementWords ∷ m .source ∷ halves 0 (m .first) ∷ m .«extended_first» ∷ m .«extended_last» ∷ m .interval ∷ m .seconds ∷ m .fraction ∷ []
-wordsOf (Loss l) =
-    firstWord lossType (flagByte (l .flag)) lossWords ∷ l .source ∷ halves (l .«burst_rate») (l .«gap_rate») ∷ halves (l .«burst_mean») (l .«burst_variance») ∷ []
-wordsOf (Discard d) =
-    firstWord discardType (flagByte (d .flag)) discardWords ∷ d .source ∷ halves (d .«burst_rate») (d .«gap_rate») ∷ []
-wordsOf (Effective e) = firstWord effectiveType 0 effectiveWords ∷ e .source ∷ halves (e .index) 0 ∷ []
-wordsOf (Streams t) =
-    firstWord streamsType 0 streamsWords ∷ t .source ∷ halves (t .begin) (t .end) ∷ t .streams ∷ t .«sync_losses» ∷ t .«sync_byte_errors» ∷ t .«continuity_errors» ∷ t .«transport_errors» ∷ t .«pcr_errors» ∷ t .«pcr_repetition_errors» ∷ t .«pcr_discontinuity_errors» ∷ t .«pts_errors» ∷ []
+wordsOf b = blockWords (typeOf b) (specificOf b) (bodyWords b)
 
 -- "All numbers are big-endian"
 abbrev pub inBytes : List ℕ → List ℕ
@@ -51,7 +71,7 @@ filled ws = record { count = length ws; words = ws ++ replicate (12 - length ws)
 -- reading would drop"
 abbrev pub writable : Block → Bool
 writable (Measured m) = true
-writable (Loss l) = eqb (summaryFault (l .flag) (l .«burst_rate») (l .«gap_rate»)) 0
-writable (Discard d) = eqb (summaryFault (d .flag) (d .«burst_rate») (d .«gap_rate»)) 0
+writable (Loss l) = summaryGood (l .flag) (l .«burst_rate») (l .«gap_rate»)
+writable (Discard d) = summaryGood (d .flag) (d .«burst_rate») (d .«gap_rate»)
 writable (Effective e) = true
 writable (Streams t) = true

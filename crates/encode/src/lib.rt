@@ -17,24 +17,14 @@ pub struct BlockWords {
     pub words: [u32; 12],
 }
 
-const MEASUREMENT_LENGTH: u16 = 7;
-
-const LOSS_LENGTH: u16 = 3;
-
-const DISCARD_LENGTH: u16 = 2;
-
-const EFFECTIVE_LENGTH: u16 = 2;
-
-const STREAMS_LENGTH: u16 = 11;
-
 // Whether a block may be written: a 17 or 18 that reading would drop may not.
 pub fn writable(b: Block) -> bool
     ensures { λ r. ⌜ r ≡ writable b ⌝ }
 {
     match b {
         Block::Measured(_) => true,
-        Block::Loss(l) => block::summary_fault(l.flag, l.burst_rate, l.gap_rate) == 0,
-        Block::Discard(d) => block::summary_fault(d.flag, d.burst_rate, d.gap_rate) == 0,
+        Block::Loss(l) => block::summary_good(l.flag, l.burst_rate, l.gap_rate),
+        Block::Discard(d) => block::summary_good(d.flag, d.burst_rate, d.gap_rate),
         Block::Effective(_) => true,
         Block::Streams(_) => true,
     }
@@ -79,7 +69,7 @@ fn measurement_words(m: Measurement) -> BlockWords
     BlockWords {
         count: 8,
         words: [
-            first_word(block::MEASUREMENT, 0, MEASUREMENT_LENGTH),
+            first_word(block::MEASUREMENT, 0, block::MEASUREMENT_WORDS),
             m.source,
             halves(0, m.first),
             m.extended_first,
@@ -101,7 +91,7 @@ fn loss_words(l: LossSummary) -> BlockWords
     BlockWords {
         count: 4,
         words: [
-            first_word(block::LOSS, l.flag % 4 * 64, LOSS_LENGTH),
+            first_word(block::LOSS, l.flag % 4 * 64, block::LOSS_WORDS),
             l.source,
             halves(l.burst_rate, l.gap_rate),
             halves(l.burst_mean, l.burst_variance),
@@ -123,7 +113,7 @@ fn discard_words(d: DiscardSummary) -> BlockWords
     BlockWords {
         count: 3,
         words: [
-            first_word(block::DISCARD, d.flag % 4 * 64, DISCARD_LENGTH),
+            first_word(block::DISCARD, d.flag % 4 * 64, block::DISCARD_WORDS),
             d.source,
             halves(d.burst_rate, d.gap_rate),
             0,
@@ -145,7 +135,7 @@ fn effective_words(e: EffectiveLoss) -> BlockWords
     BlockWords {
         count: 3,
         words: [
-            first_word(block::EFFECTIVE, 0, EFFECTIVE_LENGTH),
+            first_word(block::EFFECTIVE, 0, block::EFFECTIVE_WORDS),
             e.source,
             halves(e.index, 0),
             0,
@@ -167,7 +157,7 @@ fn stream_words(t: StreamCounts) -> BlockWords
     BlockWords {
         count: 12,
         words: [
-            first_word(block::STREAMS, 0, STREAMS_LENGTH),
+            first_word(block::STREAMS, 0, block::STREAMS_WORDS),
             t.source,
             halves(t.begin, t.end),
             t.streams,

@@ -8,7 +8,7 @@ use refusal::Refusal;
 ghost use mathlib.Core.Path.{_≡_};
 ghost use Rattle.block.specs.Reading.{readBlock};
 ghost use Rattle.block.specs.declared.Block.the-variants.{Measured, Streams};
-ghost use Rattle.ffi_block.specs.Answers.{fieldsOf, readOut};
+ghost use Rattle.ffi_block.specs.Answers.{fieldsOut, readOut};
 
 // How many numbers the fields of any typed block take.
 pub const FIELDS: usize = 13;
@@ -26,7 +26,7 @@ pub struct BlockFields {
 pub const NO_FIELDS: [u32; FIELDS] = [0; FIELDS];
 
 fn measurement_fields(m: Measurement) -> [u32; FIELDS]
-    ensures { λ r. ⌜ r ≡ fieldsOf (Measured m) ⌝ }
+    ensures { λ r. ⌜ r ≡ fieldsOut (Measured m) ⌝ }
 {
     [
         m.source,
@@ -46,7 +46,7 @@ fn measurement_fields(m: Measurement) -> [u32; FIELDS]
 }
 
 fn stream_fields(t: StreamCounts) -> [u32; FIELDS]
-    ensures { λ r. ⌜ r ≡ fieldsOf (Streams t) ⌝ }
+    ensures { λ r. ⌜ r ≡ fieldsOut (Streams t) ⌝ }
 {
     [
         t.source,
@@ -67,7 +67,7 @@ fn stream_fields(t: StreamCounts) -> [u32; FIELDS]
 
 // The fields of a typed block, in the header's order.
 fn fields_of(b: Block) -> [u32; FIELDS]
-    ensures { λ r. ⌜ r ≡ fieldsOf b ⌝ }
+    ensures { λ r. ⌜ r ≡ fieldsOut b ⌝ }
 {
     match b {
         Block::Measured(m) => measurement_fields(m),

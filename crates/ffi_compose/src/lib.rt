@@ -10,6 +10,7 @@ use ffi_answer::WrittenSize;
 ghost use mathlib.Core.Path.{_≡_};
 ghost use Rattle.refusal.specs.Answer.{after};
 ghost use Rattle.block.specs.declared.Block.the-variants.{Measured, Loss, Discard, Effective, Streams};
+ghost use Rattle.encode.specs.Words.{wordsOf};
 ghost use Rattle.compose.specs.Writing.{newBytes, newAnswer, addAnswer, grown};
 ghost use Rattle.ffi_answer.specs.Answers.{writtenOut};
 
@@ -27,7 +28,7 @@ pub extern "C" fn nuvaskoe_packet_new(sender: u32, out: &mut [u8]) -> WrittenSiz
 #[no_mangle]
 pub extern "C" fn nuvaskoe_packet_add_measurement(out: &mut [u8], block: Measurement) -> WrittenSize
     ensures answer { λ r. ⌜ r ≡ writtenOut (addAnswer (now (out .entry)) (Measured block)) ⌝ }
-    ensures buffer { λ r. ⌜ now (out .exit) ≡ after (addAnswer (now (out .entry)) (Measured block)) (grown (now (out .entry)) (Measured block)) (now (out .entry)) ⌝ }
+    ensures buffer { λ r. ⌜ now (out .exit) ≡ after (addAnswer (now (out .entry)) (Measured block)) (grown (now (out .entry)) (wordsOf (Measured block))) (now (out .entry)) ⌝ }
 {
     ffi_answer::written_out(compose::add(out, Block::Measured(block)))
 }
@@ -36,7 +37,7 @@ pub extern "C" fn nuvaskoe_packet_add_measurement(out: &mut [u8], block: Measure
 #[no_mangle]
 pub extern "C" fn nuvaskoe_packet_add_loss(out: &mut [u8], block: LossSummary) -> WrittenSize
     ensures answer { λ r. ⌜ r ≡ writtenOut (addAnswer (now (out .entry)) (Loss block)) ⌝ }
-    ensures buffer { λ r. ⌜ now (out .exit) ≡ after (addAnswer (now (out .entry)) (Loss block)) (grown (now (out .entry)) (Loss block)) (now (out .entry)) ⌝ }
+    ensures buffer { λ r. ⌜ now (out .exit) ≡ after (addAnswer (now (out .entry)) (Loss block)) (grown (now (out .entry)) (wordsOf (Loss block))) (now (out .entry)) ⌝ }
 {
     ffi_answer::written_out(compose::add(out, Block::Loss(block)))
 }
@@ -45,7 +46,7 @@ pub extern "C" fn nuvaskoe_packet_add_loss(out: &mut [u8], block: LossSummary) -
 #[no_mangle]
 pub extern "C" fn nuvaskoe_packet_add_discard(out: &mut [u8], block: DiscardSummary) -> WrittenSize
     ensures answer { λ r. ⌜ r ≡ writtenOut (addAnswer (now (out .entry)) (Discard block)) ⌝ }
-    ensures buffer { λ r. ⌜ now (out .exit) ≡ after (addAnswer (now (out .entry)) (Discard block)) (grown (now (out .entry)) (Discard block)) (now (out .entry)) ⌝ }
+    ensures buffer { λ r. ⌜ now (out .exit) ≡ after (addAnswer (now (out .entry)) (Discard block)) (grown (now (out .entry)) (wordsOf (Discard block))) (now (out .entry)) ⌝ }
 {
     ffi_answer::written_out(compose::add(out, Block::Discard(block)))
 }
@@ -54,7 +55,7 @@ pub extern "C" fn nuvaskoe_packet_add_discard(out: &mut [u8], block: DiscardSumm
 #[no_mangle]
 pub extern "C" fn nuvaskoe_packet_add_effective(out: &mut [u8], block: EffectiveLoss) -> WrittenSize
     ensures answer { λ r. ⌜ r ≡ writtenOut (addAnswer (now (out .entry)) (Effective block)) ⌝ }
-    ensures buffer { λ r. ⌜ now (out .exit) ≡ after (addAnswer (now (out .entry)) (Effective block)) (grown (now (out .entry)) (Effective block)) (now (out .entry)) ⌝ }
+    ensures buffer { λ r. ⌜ now (out .exit) ≡ after (addAnswer (now (out .entry)) (Effective block)) (grown (now (out .entry)) (wordsOf (Effective block))) (now (out .entry)) ⌝ }
 {
     ffi_answer::written_out(compose::add(out, Block::Effective(block)))
 }
@@ -63,7 +64,7 @@ pub extern "C" fn nuvaskoe_packet_add_effective(out: &mut [u8], block: Effective
 #[no_mangle]
 pub extern "C" fn nuvaskoe_packet_add_streams(out: &mut [u8], block: StreamCounts) -> WrittenSize
     ensures answer { λ r. ⌜ r ≡ writtenOut (addAnswer (now (out .entry)) (Streams block)) ⌝ }
-    ensures buffer { λ r. ⌜ now (out .exit) ≡ after (addAnswer (now (out .entry)) (Streams block)) (grown (now (out .entry)) (Streams block)) (now (out .entry)) ⌝ }
+    ensures buffer { λ r. ⌜ now (out .exit) ≡ after (addAnswer (now (out .entry)) (Streams block)) (grown (now (out .entry)) (wordsOf (Streams block))) (now (out .entry)) ⌝ }
 {
     ffi_answer::written_out(compose::add(out, Block::Streams(block)))
 }

@@ -11,9 +11,11 @@ use labels::put_figure;
 use labels::put_number;
 use labels::put_source;
 ghost use mathlib.Core.Path.{_≡_};
+ghost use Rattle.block.specs.declared.Block.the-variants.{Measured, Loss, Discard, Effective, Streams};
+ghost use Rattle.block.specs.Fields.{fieldsOf};
 ghost use Rattle.text.specs.Page.{putAt, endAt};
 ghost use Rattle.labels.specs.Labels.{number};
-ghost use Rattle.fields.specs.Fields.{measurementText, lossText, discardText, effectiveText, countsText, streamsText, typedText};
+ghost use Rattle.fields.specs.Fields.{counts, piecesText, typedText};
 
 // A typed block after its number.
 pub fn put_typed(page: &mut [u8], at: usize, block: Block) -> usize
@@ -30,8 +32,8 @@ pub fn put_typed(page: &mut [u8], at: usize, block: Block) -> usize
 }
 
 fn put_measurement(page: &mut [u8], at: usize, m: Measurement) -> usize
-    ensures answer { λ r. ⌜ r ≡ endAt (now (page .entry)) at (measurementText m) ⌝ }
-    ensures buffer { λ r. ⌜ now (page .exit) ≡ putAt (now (page .entry)) at (measurementText m) ⌝ }
+    ensures answer { λ r. ⌜ r ≡ endAt (now (page .entry)) at (typedText (Measured m)) ⌝ }
+    ensures buffer { λ r. ⌜ now (page .exit) ≡ putAt (now (page .entry)) at (typedText (Measured m)) ⌝ }
 {
     let a = put_source(page, at, b" meas source ", m.source);
     let b = put_u16(page, a, b" first ", m.first);
@@ -43,8 +45,8 @@ fn put_measurement(page: &mut [u8], at: usize, m: Measurement) -> usize
 }
 
 fn put_loss(page: &mut [u8], at: usize, l: LossSummary) -> usize
-    ensures answer { λ r. ⌜ r ≡ endAt (now (page .entry)) at (lossText l) ⌝ }
-    ensures buffer { λ r. ⌜ now (page .exit) ≡ putAt (now (page .entry)) at (lossText l) ⌝ }
+    ensures answer { λ r. ⌜ r ≡ endAt (now (page .entry)) at (typedText (Loss l)) ⌝ }
+    ensures buffer { λ r. ⌜ now (page .exit) ≡ putAt (now (page .entry)) at (typedText (Loss l)) ⌝ }
 {
     let a = put_source(page, at, b" loss source ", l.source);
     let b = put_u16(page, a, b" i ", l.flag as u16);
@@ -55,8 +57,8 @@ fn put_loss(page: &mut [u8], at: usize, l: LossSummary) -> usize
 }
 
 fn put_discard(page: &mut [u8], at: usize, d: DiscardSummary) -> usize
-    ensures answer { λ r. ⌜ r ≡ endAt (now (page .entry)) at (discardText d) ⌝ }
-    ensures buffer { λ r. ⌜ now (page .exit) ≡ putAt (now (page .entry)) at (discardText d) ⌝ }
+    ensures answer { λ r. ⌜ r ≡ endAt (now (page .entry)) at (typedText (Discard d)) ⌝ }
+    ensures buffer { λ r. ⌜ now (page .exit) ≡ putAt (now (page .entry)) at (typedText (Discard d)) ⌝ }
 {
     let a = put_source(page, at, b" discard source ", d.source);
     let b = put_u16(page, a, b" i ", d.flag as u16);
@@ -65,16 +67,16 @@ fn put_discard(page: &mut [u8], at: usize, d: DiscardSummary) -> usize
 }
 
 fn put_effective(page: &mut [u8], at: usize, e: EffectiveLoss) -> usize
-    ensures answer { λ r. ⌜ r ≡ endAt (now (page .entry)) at (effectiveText e) ⌝ }
-    ensures buffer { λ r. ⌜ now (page .exit) ≡ putAt (now (page .entry)) at (effectiveText e) ⌝ }
+    ensures answer { λ r. ⌜ r ≡ endAt (now (page .entry)) at (typedText (Effective e)) ⌝ }
+    ensures buffer { λ r. ⌜ now (page .exit) ≡ putAt (now (page .entry)) at (typedText (Effective e)) ⌝ }
 {
     let a = put_source(page, at, b" eli source ", e.source);
     put_u16(page, a, b" index ", e.index)
 }
 
 fn put_streams(page: &mut [u8], at: usize, t: StreamCounts) -> usize
-    ensures answer { λ r. ⌜ r ≡ endAt (now (page .entry)) at (streamsText t) ⌝ }
-    ensures buffer { λ r. ⌜ now (page .exit) ≡ putAt (now (page .entry)) at (streamsText t) ⌝ }
+    ensures answer { λ r. ⌜ r ≡ endAt (now (page .entry)) at (typedText (Streams t)) ⌝ }
+    ensures buffer { λ r. ⌜ now (page .exit) ≡ putAt (now (page .entry)) at (typedText (Streams t)) ⌝ }
 {
     let a = put_source(page, at, b" ts source ", t.source);
     let b = put_u16(page, a, b" begin ", t.begin);
@@ -92,8 +94,8 @@ fn put_streams(page: &mut [u8], at: usize, t: StreamCounts) -> usize
 
 // The eight counts, in document 004's order.
 fn put_counts(page: &mut [u8], at: usize, t: StreamCounts) -> usize
-    ensures answer { λ r. ⌜ r ≡ endAt (now (page .entry)) at (countsText t) ⌝ }
-    ensures buffer { λ r. ⌜ now (page .exit) ≡ putAt (now (page .entry)) at (countsText t) ⌝ }
+    ensures answer { λ r. ⌜ r ≡ endAt (now (page .entry)) at (piecesText (fieldsOf (Streams t)) counts) ⌝ }
+    ensures buffer { λ r. ⌜ now (page .exit) ≡ putAt (now (page .entry)) at (piecesText (fieldsOf (Streams t)) counts) ⌝ }
 {
     let a = put_u32(page, at, b" ", t.sync_losses);
     let b = put_u32(page, a, b" ", t.sync_byte_errors);

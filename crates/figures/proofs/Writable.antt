@@ -5,13 +5,13 @@ use mathlib.Core.Bool.{Bool, true, false}
 use mathlib.Core.List.{List}
 use mathlib.Core.Logic.{_⊎_, ⊎-elim}
 use native.Mathlib.Omega.{arith}
-use borrow.Author.Tests.{le-leb, eq-eqb}
+use borrow.Author.Tests.{le-leb}
 use lib.ListN.{length}
 use lib.Seq.{take-length}
 use Rattle.refusal.specs.Table.{setting}
 use Rattle.refusal.specs.Answer.{unless, ifAccepted}
 use Rattle.settings.specs.Ranges.{burstInRange}
-use Rattle.block.specs.Reading.{rateMax, unavailable, rateGood, flagGood, summaryFault}
+use Rattle.block.specs.Reading.{rateMax, unavailable, rateGood, flagGood, summaryGood}
 use Rattle.block.specs.declared.Block.the-variants.{Loss, Discard}
 use Rattle.trace.specs.declared.Event.{Event}
 use Rattle.refusal.specs.declared.Judged.{Judged}
@@ -40,9 +40,9 @@ good : (r : ℕ) → (r ≤ rateMax) ⊎ (r ≡ unavailable) → rateGood r ≡ 
 unfolding rateGood
 good r h = ⊎-elim (λ (l : r ≤ rateMax). rw (le-leb r rateMax l)) (λ (e : r ≡ unavailable). rw e) h
 
-faultless : (s : Sums) (f : Figures) → Right s f → (flag : ℕ) → flagGood flag ≡ true → summaryFault flag (f .«burst_rate») (f .«gap_rate») ≡ 0
-unfolding summaryFault
-faultless s f r flag h = rw (h, good (f .«burst_rate») (r .burst-most), good (f .«gap_rate») (r .gap-most))
+let-through : (s : Sums) (f : Figures) → Right s f → (flag : ℕ) → flagGood flag ≡ true → summaryGood flag (f .«burst_rate») (f .«gap_rate») ≡ true
+unfolding summaryGood
+let-through s f r flag h = rw (h, good (f .«burst_rate») (r .burst-most), good (f .«gap_rate») (r .gap-most))
 
 -- and every figure fits 16 bits
 small : (n most : ℕ) → most < unavailable → (n ≤ most) ⊎ (n ≡ unavailable) → Half n
@@ -50,7 +50,7 @@ small n most m h = ⊎-elim (λ (l : n ≤ most). omega arith) (λ (e : n ≡ un
 
 writes : (s : Sums) (f : Figures) → Right s f → BlocksWrite f
 writes s f r source flag word good-flag =
-    let through = eq-eqb (summaryFault flag (f .«burst_rate») (f .«gap_rate»)) 0 (faultless s f r flag good-flag) in
+    let through = let-through s f r flag good-flag in
     let burst = small (f .«burst_rate») rateMax (omega arith) (r .burst-most) in
     let gap = small (f .«gap_rate») rateMax (omega arith) (r .gap-most) in
     let mean = small (f .«burst_mean») overRange (omega arith) (r .mean-most) in

@@ -3,12 +3,12 @@ use Prim.Native.Nat.{ℕ}
 use mathlib.Core.Path.{_≡_}
 use mathlib.Core.Bool.{true}
 use mathlib.Core.List.{List}
-use Rattle.block.specs.Reading.{flagGood}
+use Rattle.block.specs.Reading.{flagGood, readBytes}
 use Rattle.block.specs.declared.Block.{Block}
 use Rattle.block.specs.declared.Block.the-variants.{Loss, Discard}
 use Rattle.block.specs.declared.BlockRead.the-variants.{Typed}
 use Rattle.encode.specs.Words.{bytesOf, writable}
-use Rattle.encode.specs.Laws.{Word, readBytes}
+use Rattle.encode.specs.Laws.{Word}
 use Rattle.trace.specs.declared.Event.{Event}
 use Rattle.trace.specs.Trace.{countsAs}
 use Rattle.bursts.specs.declared.Figures.{Figures}

@@ -1,7 +1,8 @@
 pub mod FirstBytes
 pub mod Stepping
+pub mod Blocks
 pub mod Walking
-pub mod Reserved
-pub mod Behind
-pub mod Whole
-pub mod Filled
+pub mod Filling
+pub mod Locating
+pub mod Kept
+pub mod Numbering

@@ -7,74 +7,76 @@ use native.Mathlib.Omega.{arith}
 use native.Mathlib.Decide.{decLt, decLe}
 use borrow.Author.Tests.{lt-ltb, le-ltb, le-leb, lt-leb}
 use lib.ListN.{length}
-use Rattle.frame.specs.Frames.{Entry, Frames, whole, past, before, nextAt, entryAt, framesFrom, framesAt, nextFrom}
+use Rattle.frame.specs.Frames.{Entry, Frames, whole, past, before, nextAt, entryAt, framesFrom, framesIn}
 
 -- the cases of `framesFrom`
-pub frames-end : (most : ℕ) (s : List ℕ) (at : ℕ) → length s ≤ at → framesFrom most s at ≡ whole []
+pub frames-end : (most : ℕ) (s : List ℕ) (at to : ℕ) → to ≤ at → framesFrom most s at to ≡ whole []
 unfolding framesFrom
-frames-end zero s at h = refl
-frames-end (suc most) s at h = rw (le-ltb at (length s) h)
+frames-end zero s at to h = refl
+frames-end (suc most) s at to h = rw (le-ltb at to h)
 
-pub frames-past : (most : ℕ) (s : List ℕ) (at : ℕ) → at < length s → length s < nextAt s at → framesFrom (suc most) s at ≡ past at
+pub frames-past : (most : ℕ) (s : List ℕ) (at to : ℕ) → at < to → to < nextAt s at → framesFrom (suc most) s at to ≡ past at
 unfolding framesFrom
-frames-past most s at h p = rw (lt-ltb at (length s) h, lt-leb (nextAt s at) (length s) p)
+frames-past most s at to h p = rw (lt-ltb at to h, lt-leb (nextAt s at) to p)
 
-pub frames-next : (most : ℕ) (s : List ℕ) (at : ℕ) → at < length s → nextAt s at ≤ length s →
-    framesFrom (suc most) s at ≡ before (entryAt s at) (framesFrom most s (nextAt s at))
+pub frames-next : (most : ℕ) (s : List ℕ) (at to : ℕ) → at < to → nextAt s at ≤ to →
+    framesFrom (suc most) s at to ≡ before (entryAt s at) (framesFrom most s (nextAt s at) to)
 unfolding framesFrom
-frames-next most s at h p = rw (lt-ltb at (length s) h, le-leb (nextAt s at) (length s) p)
-
-pub next-inside : (s : List ℕ) (at : ℕ) → at < length s → nextFrom s at ≡ nextAt s at
-unfolding nextFrom
-next-inside s at h = rw (lt-ltb at (length s) h)
-
-pub next-end : (s : List ℕ) (at : ℕ) → length s ≤ at → nextFrom s at ≡ length s
-unfolding nextFrom
-next-end s at h = rw (le-ltb at (length s) h)
+frames-next most s at to h p = rw (lt-ltb at to h, le-leb (nextAt s at) to p)
 
 -- the limit does not matter
-pub frames-limit : (m n : ℕ) (s : List ℕ) (at : ℕ) → length s ≤ m + at → length s ≤ n + at → framesFrom m s at ≡ framesFrom n s at
-frames-limit zero n s at hm hn = frames-end zero s at (omega arith) ∙ sym (frames-end n s at (omega arith))
-frames-limit (suc m) zero s at hm hn = frames-end (suc m) s at (omega arith) ∙ sym (frames-end zero s at (omega arith))
-frames-limit (suc m) (suc n) s at hm hn = go (decLt at (length s)) (decLe (nextAt s at) (length s)) (frames-limit m n s (nextAt s at))
+frames-limit : (m n : ℕ) (s : List ℕ) (at to : ℕ) → to ≤ m + at → to ≤ n + at → framesFrom m s at to ≡ framesFrom n s at to
+frames-limit zero n s at to hm hn = frames-end zero s at to (omega arith) ∙ sym (frames-end n s at to (omega arith))
+frames-limit (suc m) zero s at to hm hn = frames-end (suc m) s at to (omega arith) ∙ sym (frames-end zero s at to (omega arith))
+frames-limit (suc m) (suc n) s at to hm hn = go (decLt at to) (decLe (nextAt s at) to) (frames-limit m n s (nextAt s at) to)
   where
-    go : Dec (at < length s) → Dec (nextAt s at ≤ length s) →
-        (length s ≤ m + nextAt s at → length s ≤ n + nextAt s at → framesFrom m s (nextAt s at) ≡ framesFrom n s (nextAt s at)) →
-        framesFrom (suc m) s at ≡ framesFrom (suc n) s at
-    go (no outside) d rest = frames-end (suc m) s at (omega arith) ∙ sym (frames-end (suc n) s at (omega arith))
-    go (yes inside) (no over) rest = frames-past m s at inside (omega arith) ∙ sym (frames-past n s at inside (omega arith))
+    go : Dec (at < to) → Dec (nextAt s at ≤ to) →
+        (to ≤ m + nextAt s at → to ≤ n + nextAt s at → framesFrom m s (nextAt s at) to ≡ framesFrom n s (nextAt s at) to) →
+        framesFrom (suc m) s at to ≡ framesFrom (suc n) s at to
+    go (no outside) d rest = frames-end (suc m) s at to (omega arith) ∙ sym (frames-end (suc n) s at to (omega arith))
+    go (yes inside) (no over) rest = frames-past m s at to inside (omega arith) ∙ sym (frames-past n s at to inside (omega arith))
     go (yes inside) (yes fits) rest =
-        frames-next m s at inside fits ∙ ap (before (entryAt s at)) (rest (omega arith) (omega arith)) ∙ sym (frames-next n s at inside fits)
+        frames-next m s at to inside fits ∙ ap (before (entryAt s at)) (rest (omega arith) (omega arith)) ∙ sym (frames-next n s at to inside fits)
 
 -- the blocks from one place are the block there and those from the next
-pub at-next : (s : List ℕ) (at : ℕ) → at < length s → nextAt s at ≤ length s → framesAt s at ≡ before (entryAt s at) (framesAt s (nextAt s at))
-at-next s at h p =
-    frames-limit (length s) (suc (length s)) s at (omega arith) (omega arith) ∙ frames-next (length s) s at h p
+pub at-next : (s : List ℕ) (at to : ℕ) → at < to → nextAt s at ≤ to → framesIn s at to ≡ before (entryAt s at) (framesIn s (nextAt s at) to)
+at-next s at to h p = frames-limit to (suc to) s at to (omega arith) (omega arith) ∙ frames-next to s at to h p
 
-pub at-past : (s : List ℕ) (at : ℕ) → at < length s → length s < nextAt s at → framesAt s at ≡ past at
-at-past s at h p =
-    frames-limit (length s) (suc (length s)) s at (omega arith) (omega arith) ∙ frames-past (length s) s at h p
+pub at-past : (s : List ℕ) (at to : ℕ) → at < to → to < nextAt s at → framesIn s at to ≡ past at
+at-past s at to h p = frames-limit to (suc to) s at to (omega arith) (omega arith) ∙ frames-past to s at to h p
 
-pub at-end : (s : List ℕ) (at : ℕ) → length s ≤ at → framesAt s at ≡ whole []
-at-end s at h = frames-end (length s) s at h
+pub at-end : (s : List ℕ) (at to : ℕ) → to ≤ at → framesIn s at to ≡ whole []
+at-end s at to h = frames-end to s at to h
 
 -- whole blocks from a place inside: the first stands there and fits, and the rest are whole
-pub record First (s : List ℕ) (at : ℕ) (es : List Entry) : Type 0 where
+pub record First (s : List ℕ) (at to : ℕ) (es : List Entry) : Type 0 where
   pub rest : List Entry
-  pub fits : nextAt s at ≤ length s
+  pub fits : nextAt s at ≤ to
   pub first : es ≡ entryAt s at ∷ rest
-  pub after : framesAt s (nextAt s at) ≡ whole rest
+  pub after : framesIn s (nextAt s at) to ≡ whole rest
 
-pub first-of : (s : List ℕ) (at : ℕ) (es : List Entry) → at < length s → framesAt s at ≡ whole es → First s at es
-first-of s at es h w = go (decLe (nextAt s at) (length s))
+pub first-of : (s : List ℕ) (at to : ℕ) (es : List Entry) → at < to → framesIn s at to ≡ whole es → First s at to es
+first-of s at to es h w = go (decLe (nextAt s at) to)
   where
-    cons : (frames : Frames) → framesAt s (nextAt s at) ≡ frames → nextAt s at ≤ length s → before (entryAt s at) frames ≡ whole es → First s at es
+    cons : (frames : Frames) → framesIn s (nextAt s at) to ≡ frames → nextAt s at ≤ to → before (entryAt s at) frames ≡ whole es → First s at to es
     cons (whole rest) e fits b = record { rest = rest; fits = fits; first = cc; after = e }
     cons (past offset) e fits b = let z : _≡_ {A = ℕ} 0 1 = cc in absurd (omega arith)
 
-    go : Dec (nextAt s at ≤ length s) → First s at es
-    go (yes fits) = cons (framesAt s (nextAt s at)) refl fits (sym (at-next s at h fits) ∙ w)
+    go : Dec (nextAt s at ≤ to) → First s at to es
+    go (yes fits) = cons (framesIn s (nextAt s at) to) refl fits (sym (at-next s at to h fits) ∙ w)
     go (no over) =
-        let p : past at ≡ whole es = sym (at-past s at h (omega arith)) ∙ w in
+        let p : past at ≡ whole es = sym (at-past s at to h (omega arith)) ∙ w in
         let z : _≡_ {A = ℕ} 0 1 = cc in
+        absurd (omega arith)
+
+-- whole blocks that are some leave a place inside
+pub some-left : (s : List ℕ) (at to : ℕ) (es : List Entry) → framesIn s at to ≡ whole es → 0 < length es → at < to
+some-left s at to es w h = go (decLt at to)
+  where
+    go : Dec (at < to) → at < to
+    go (yes l) = l
+    go (no l) =
+        let none : whole es ≡ whole [] = sym w ∙ at-end s at to (omega arith) in
+        let nil : es ≡ [] = cc in
+        let size = ap length nil in
         absurd (omega arith)

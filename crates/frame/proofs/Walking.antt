@@ -13,9 +13,9 @@ use lib.Dec.{ltb, eqb}
 use lib.ListN.{length}
 use Rattle.frame.specs.declared.Walked.{Walked}
 use Rattle.frame.specs.declared.Walked.the-variants.{Blocks, Past}
-use Rattle.frame.specs.Frames.{Entry, Frames, whole, past, before, nextAt, entryAt, firstBlock, framesFrom, framesOf}
-use Rattle.frame.specs.Packet.{placeOf, walkedOf}
-use Rattle.frame.proofs.Stepping.{frames-end, frames-past, frames-next}
+use Rattle.frame.specs.Frames.{Entry, Frames, whole, past, before, nextAt, entryAt, framesIn}
+use Rattle.frame.specs.Packet.{numbered, placeOf, walkedOf}
+use Rattle.frame.proofs.Stepping.{at-next, at-past, at-end}
 
 -- what is found of block k where c blocks have been passed, of which k, if it was among them, stood at f
 abbrev walkedFrom : Frames → ℕ → ℕ → ℕ → Walked
@@ -27,7 +27,7 @@ from-start (past offset) k = refl
 from-start (whole es) k = rw (le-ltb k 0 (omega arith), zero-add, sub-zero)
 
 from-before : (e : Entry) (frames : Frames) (k c f : ℕ) → walkedFrom (before e frames) k c f ≡ walkedFrom frames k (c + 1) (cond (eqb c k) (e .place) f)
-unfolding placeOf
+unfolding numbered
 from-before e (past offset) k c f = refl
 from-before e (whole es) k c f = go (decLt k c) (ℕ-discrete c k)
   where
@@ -43,52 +43,45 @@ from-before e (whole es) k c f = go (decLt k c) (ℕ-discrete c k)
         let later : k - c ≡ suc (k - (c + 1)) = omega arith in
         rw (n, le-ltb k c (omega arith), le-ltb k (c + 1) (omega arith), later)
 
--- The walk stands at `at`, with `count` blocks passed.
-pub record Walk (s : List ℕ) (k at count found : ℕ) : Type 0 where
-  pub low : count < at
+-- The walk from `from` to `to` stands at `at`, with `count` blocks passed.
+pub record Walk (s : List ℕ) (from to k at count found : ℕ) : Type 0 where
+  pub low : count ≤ at
   pub none : count ≤ k → found ≡ 0
-  pub same : walkedOf (framesOf s) k ≡ walkedFrom (framesFrom (length s - count) s at) k count found
+  pub same : walkedOf (framesIn s from to) k ≡ walkedFrom (framesIn s at to) k count found
 
-pub walk-start : (s : List ℕ) (k : ℕ) → Walk s k firstBlock 0 0
-walk-start s k = record { low = omega arith; none = λ h. refl; same = rw sub-zero (sym (from-start (framesFrom (length s) s firstBlock) k)) }
+pub walk-start : (s : List ℕ) (from to k : ℕ) → Walk s from to k from 0 0
+walk-start s from to k = record { low = omega arith; none = λ h. refl; same = sym (from-start (framesIn s from to) k) }
 
-pub walk-past : (s : List ℕ) (k at count found : ℕ) → Walk s k at count found → at < length s → length s < nextAt s at → Past at ≡ walkedOf (framesOf s) k
-walk-past s k at count found w h p =
-    let low = w .low in
-    let e : length s - count ≡ suc (length s - count - 1) = omega arith in
-    sym (w .same ∙ ap (λ (most : ℕ). walkedFrom (framesFrom most s at) k count found) e ∙ ap (λ (frames : Frames). walkedFrom frames k count found) (frames-past (length s - count - 1) s at h p))
+module _ (s : List ℕ) (from to k at count found : ℕ) (w : Walk s from to k at count found) where
+  pub walk-past : at < to → to < nextAt s at → Past at ≡ walkedOf (framesIn s from to) k
+  walk-past h p = sym (w .same ∙ ap (λ (frames : Frames). walkedFrom frames k count found) (at-past s at to h p))
 
-walk-next : (s : List ℕ) (k at count found : ℕ) → Walk s k at count found → at < length s → nextAt s at ≤ length s →
-    Walk s k (nextAt s at) (count + 1) (cond (eqb count k) at found)
-unfolding entryAt
-walk-next s k at count found w h p =
-    let low = w .low in
-    let e : length s - count ≡ suc (length s - (count + 1)) = omega arith in
-    record {
-      low = omega arith;
-      none = λ later. rw (ne-eqb count k (omega arith)) (w .none (omega arith));
-      same =
-          w .same ∙ ap (λ (most : ℕ). walkedFrom (framesFrom most s at) k count found) e
-          ∙ ap (λ (frames : Frames). walkedFrom frames k count found) (frames-next (length s - (count + 1)) s at h p)
-          ∙ from-before (entryAt s at) (framesFrom (length s - (count + 1)) s (nextAt s at)) k count found;
-    }
+  walk-next : at < to → nextAt s at ≤ to → Walk s from to k (nextAt s at) (count + 1) (cond (eqb count k) at found)
+  unfolding entryAt
+  walk-next h p =
+      let low = w .low in
+      record {
+        low = omega arith;
+        none = λ later. rw (ne-eqb count k (omega arith)) (w .none (omega arith));
+        same =
+            w .same ∙ ap (λ (frames : Frames). walkedFrom frames k count found) (at-next s at to h p)
+            ∙ from-before (entryAt s at) (framesIn s (nextAt s at) to) k count found;
+      }
 
-pub walk-on : (s : List ℕ) (k at count found next found′ : ℕ) → Walk s k at count found → at < length s → next ≡ nextAt s at → next ≤ length s →
-    ((count ≡ k) × (found′ ≡ at)) ⊎ ((count ≡ k → ⊥) × (found′ ≡ found)) → Walk s k next (count + 1) found′
-walk-on s k at count found next found′ w h e p came =
-    rw (e, ⊎-elim here other came) (walk-next s k at count found w h (rw (← e) p))
-  where
-    here : (count ≡ k) × (found′ ≡ at) → found′ ≡ cond (eqb count k) at found
-    here c = c .1 ∙ rw (eq-eqb count k (c .0))
+  pub walk-on : (next found′ : ℕ) → at < to → next ≡ nextAt s at → next ≤ to →
+      ((count ≡ k) × (found′ ≡ at)) ⊎ ((count ≡ k → ⊥) × (found′ ≡ found)) → Walk s from to k next (count + 1) found′
+  walk-on next found′ h e p came = rw (e, ⊎-elim here other came) (walk-next h (rw (← e) p))
+    where
+      here : (count ≡ k) × (found′ ≡ at) → found′ ≡ cond (eqb count k) at found
+      here c = c .1 ∙ rw (eq-eqb count k (c .0))
 
-    other : (count ≡ k → ⊥) × (found′ ≡ found) → found′ ≡ cond (eqb count k) at found
-    other c = c .1 ∙ rw (ne-eqb count k (c .0))
+      other : (count ≡ k → ⊥) × (found′ ≡ found) → found′ ≡ cond (eqb count k) at found
+      other c = c .1 ∙ rw (ne-eqb count k (c .0))
 
-pub walk-end : (s : List ℕ) (k at count found : ℕ) → Walk s k at count found → length s ≤ at → Blocks count found ≡ walkedOf (framesOf s) k
-unfolding placeOf
-walk-end s k at count found w h =
-    sym (w .same ∙ ap (λ (frames : Frames). walkedFrom frames k count found) (frames-end (length s - count) s at h) ∙ go (decLt k count))
-  where
-    go : Dec (k < count) → walkedFrom (whole []) k count found ≡ Blocks count found
-    go (yes lt) = rw (lt-ltb k count lt, add-zero)
-    go (no ge) = rw (le-ltb k count (omega arith), add-zero, w .none (omega arith))
+  pub walk-end : to ≤ at → Blocks count found ≡ walkedOf (framesIn s from to) k
+  unfolding numbered
+  walk-end h = sym (w .same ∙ ap (λ (frames : Frames). walkedFrom frames k count found) (at-end s at to h) ∙ go (decLt k count))
+    where
+      go : Dec (k < count) → walkedFrom (whole []) k count found ≡ Blocks count found
+      go (yes lt) = rw (lt-ltb k count lt, add-zero)
+      go (no ge) = rw (le-ltb k count (omega arith), add-zero, w .none (omega arith))

@@ -25,7 +25,15 @@ unfoldable pub entryAt : List ℕ → ℕ → Entry
 entryAt s at =
     record { kind = getD s at 0; specific = getD s (at + 1) 0; place = at; body = take (bodyLength s at) (drop (at + 4) s) }
 
--- what fills the bytes from some offset on: whole blocks, or a block at some offset that runs past the end
+-- the bytes of the block at `at`, its first word and its body; none where no whole block stands there
+unfoldable pub blockAt : List ℕ → ℕ → List ℕ
+blockAt s at = unless (leb (nextAt s at) (length s)) [] (take (4 + bodyLength s at) (drop at s))
+
+-- where that part of s begins
+unfoldable pub startAt : List ℕ → ℕ → ℕ
+startAt s at = unless (leb (nextAt s at) (length s)) 0 at
+
+-- what fills the bytes from one offset to another: whole blocks, or a block at some offset that runs past the end
 pub data Frames : Type 0 where
   whole : List Entry → Frames
   past : ℕ → Frames
@@ -34,29 +42,26 @@ abbrev pub before : Entry → Frames → Frames
 before e (whole es) = whole (e ∷ es)
 before e (past offset) = past offset
 
--- the blocks of s from offset `at` on, at most `most` of them
-unfoldable pub framesFrom : ℕ → List ℕ → ℕ → Frames
-framesFrom zero s at = whole []
-framesFrom (suc most) s at =
-    unless (ltb at (length s)) (whole [])
-    (unless (leb (nextAt s at) (length s)) (past at)
-    (before (entryAt s at) (framesFrom most s (nextAt s at))))
+-- the blocks of s from offset `at` to offset `to`, at most `most` of them
+unfoldable pub framesFrom : ℕ → List ℕ → ℕ → ℕ → Frames
+framesFrom zero s at to = whole []
+framesFrom (suc most) s at to =
+    unless (ltb at to) (whole [])
+    (unless (leb (nextAt s at) to) (past at)
+    (before (entryAt s at) (framesFrom most s (nextAt s at) to)))
 
--- all of them: there are never more than s has bytes
-abbrev pub framesAt : List ℕ → ℕ → Frames
-framesAt s at = framesFrom (length s) s at
+-- all of them: there are never more than `to` is
+abbrev pub framesIn : List ℕ → ℕ → ℕ → Frames
+framesIn s at to = framesFrom to s at to
 
 abbrev pub firstBlock : ℕ
 firstBlock = 8
 
+-- the blocks of a packet that fills s
 abbrev pub framesOf : List ℕ → Frames
-framesOf s = framesAt s firstBlock
+framesOf s = framesIn s firstBlock (length s)
 
 -- the blocks, where they are whole
 abbrev pub entriesOf : Frames → List Entry
 entriesOf (whole es) = es
 entriesOf (past offset) = []
-
--- where the walk goes on after the block at `at`: the end, where no block stands there
-unfoldable pub nextFrom : List ℕ → ℕ → ℕ
-nextFrom s at = unless (ltb at (length s)) (length s) (nextAt s at)

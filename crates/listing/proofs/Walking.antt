@@ -12,15 +12,17 @@ use Rattle.refusal.specs.Answer.{after}
 use Rattle.refusal.specs.declared.Written.{Written}
 use Rattle.refusal.specs.declared.Written.the-variants.{Size}
 use Rattle.block.specs.Types.{unmeasured}
-use Rattle.block.specs.Reading.{readBlock}
+use Rattle.block.specs.Reading.{readBytes}
 use Rattle.block.specs.declared.BlockRead.{BlockRead}
 use Rattle.block.specs.declared.BlockRead.the-variants.{Typed, Unknown, Dropped}
-use Rattle.frame.specs.Frames.{Entry, whole, bodyLength, nextAt, entryAt, framesAt, firstBlock}
-use Rattle.frame.specs.Packet.{Packet, good, bad, packetOf, placeOf}
+use Rattle.frame.specs.Frames.{Entry, whole, bodyLength, nextAt, entryAt, blockAt, framesIn, firstBlock}
+use Rattle.frame.specs.Packet.{Packet, good, bad, packetOf}
 use Rattle.frame.proofs.Stepping.{first-of}
-use Rattle.packet.specs.Blocks.{readIn}
-use Rattle.packet.specs.Steps.{openedOf, Inside, blocksOf}
-use Rattle.packet.proofs.Opening.{opened}
+use Rattle.frame.proofs.Blocks.{block-bytes}
+use Rattle.packet.specs.Blocks.{readAlone, readIn}
+use Rattle.packet.specs.Steps.{blocksOf}
+use Rattle.packet.proofs.Measuring.{read-at}
+use Rattle.packet.proofs.Chosen.{blocks-are, blocks-whole}
 use Rattle.packet.proofs.Judging.{own-but-unmeasured}
 use Rattle.survey.specs.Survey.{verdictOf, listing, listOf, listAnswer}
 use Rattle.text.specs.Laws.{Put}
@@ -36,18 +38,15 @@ listed s out table n a b = go (packetOf s) refl a b
   where
     go : (p : Packet) → packetOf s ≡ p → Size n ≡ listAnswer p out → table ≡ after (listAnswer p out) (listOf p) out → Listed s table
     go (good sender es) e h t =
-        let o = opened s 0 sender (length es) (placeOf es 0) (ap (λ (p : Packet). openedOf p 0) e) in
-        let g : good sender es ≡ good sender (o .blocks) = sym e ∙ o .packet in
-        let same : o .blocks ≡ es = cc in
         let filled : table ≡ listing es es ++ drop n out = t ∙ ap (λ (w : Written). after w (listing es es) out) (sym h) in
-        record { blocks = rw (o .frames); rest = drop n out; told = rw (o .frames, same) filled }
+        record { blocks = blocks-whole s sender es e; rest = drop n out; told = rw (blocks-are s sender es e) filled }
     go (bad r) e h t = let z : _≡_ {A = ℕ} 0 1 = cc in absurd (omega arith)
 
 -- The walk stands at `at`, before block number k: the blocks left are whole, and the table goes on with theirs.
 pub record Walk (s table : List ℕ) (at k : ℕ) : Type 0 where
   pub left : List Entry
   pub rest : List ℕ
-  pub frames : framesAt s at ≡ whole left
+  pub frames : framesIn s at (length s) ≡ whole left
   pub told : drop (2 * k) table ≡ listing (blocksOf s) left ++ rest
 
 module _ (s table : List ℕ) where
@@ -56,12 +55,15 @@ module _ (s table : List ℕ) where
 
   module _ (at k : ℕ) (w : Walk s table at k) (h : at < length s) where
     -- what the table says of the block here, then of those after it
-    here : drop (2 * k) table ≡ at ∷ verdictOf (readIn (blocksOf s) (entryAt s at)) ∷ (listing (blocksOf s) (first-of s at (w .left) h (w .frames) .rest) ++ w .rest)
+    here : drop (2 * k) table ≡ at ∷ verdictOf (readIn (blocksOf s) (entryAt s at)) ∷ (listing (blocksOf s) (first-of s at (length s) (w .left) h (w .frames) .rest) ++ w .rest)
     unfolding listing entryAt
-    here = w .told ∙ ap (λ (es : List Entry). listing (blocksOf s) es ++ w .rest) (first-of s at (w .left) h (w .frames) .first)
+    here = w .told ∙ ap (λ (es : List Entry). listing (blocksOf s) es ++ w .rest) (first-of s at (length s) (w .left) h (w .frames) .first)
 
-    pub walk-inside : Inside s at
-    walk-inside = record { starts = h; ends = first-of s at (w .left) h (w .frames) .fits }
+    pub walk-fits : nextAt s at ≤ length s
+    walk-fits = first-of s at (length s) (w .left) h (w .frames) .fits
+
+    pub walk-long : (bytes : List ℕ) → bytes ≡ blockAt s at → at + length bytes ≡ nextAt s at
+    walk-long bytes b = let l = block-bytes s at walk-fits .long in let e = ap length b in omega arith
 
     pub walk-room : 2 * k + 2 ≤ length table
     walk-room = let e = sym (length-drop (2 * k) table) ∙ ap length here in omega arith
@@ -71,7 +73,7 @@ module _ (s table : List ℕ) where
 
     pub walk-next : (next : ℕ) → next ≡ nextAt s at → Walk s table next (k + 1)
     walk-next next e =
-        let f = first-of s at (w .left) h (w .frames) in
+        let f = first-of s at (length s) (w .left) h (w .frames) in
         let two : 2 * (k + 1) ≡ 2 * k + 2 = omega arith in
         rw e (record { left = f .rest; rest = w .rest; frames = f .after; told = rw two (sym (drop-drop 2 (2 * k) table) ∙ ap (drop 2) here) })
 
@@ -90,30 +92,29 @@ verdict-4 (Typed b) h = absurd (omega arith)
 verdict-4 Unknown h = absurd (omega arith)
 verdict-4 (Dropped reason) h = ap Dropped h
 
-pub judged-is : (es : List Entry) (e : Entry) (v : ℕ) → v ≡ verdictOf (readIn es e) → judgedBy (readBlock (e .kind) (e .specific) (e .body)) v ≡ readIn es e
+pub judged-is : (es : List Entry) (e : Entry) (v : ℕ) → v ≡ verdictOf (readIn es e) → judgedBy (readAlone e) v ≡ readIn es e
 judged-is es e v is = go (ℕ-discrete v unmeasured) (own-but-unmeasured es e)
   where
     own : BlockRead
-    own = readBlock (e .kind) (e .specific) (e .body)
+    own = readAlone e
 
     go : Dec (v ≡ unmeasured) → (readIn es e ≡ own) ⊎ (readIn es e ≡ Dropped unmeasured) → judgedBy own v ≡ readIn es e
     go (yes four) x = sym (judged-unmeasured own v four) ∙ sym (verdict-4 (readIn es e) (sym is ∙ four))
     go (no other) (inl same) = sym (judged-own own v other) ∙ sym same
     go (no other) (inr dropped) = absurd (other (is ∙ ap verdictOf dropped))
 
-pub line-is : (s : List ℕ) (at k v : ℕ) → v ≡ verdictOf (readIn (blocksOf s) (entryAt s at)) →
-    blockLine k (entryAt s at .kind) (bodyLength s at) (judgedBy (readBlock (entryAt s at .kind) (entryAt s at .specific) (entryAt s at .body)) v) ≡ lineAt s at k
+-- what the code puts together is the line of the block
+pub line-text : (s : List ℕ) (at k v : ℕ) (bytes : List ℕ) (own read : BlockRead) → nextAt s at ≤ length s → bytes ≡ blockAt s at → v ≡ verdictOf (readIn (blocksOf s) (entryAt s at)) →
+    own ≡ readBytes bytes → read ≡ judgedBy own v → blockLine k (getD bytes 0 0) (length bytes - 4) read ≡ lineAt s at k
 unfolding lineAt
-line-is s at k v is = ap (blockLine k (entryAt s at .kind) (bodyLength s at)) (judged-is (blocksOf s) (entryAt s at) v is)
+line-text s at k v bytes own read fits b is o j =
+    let facts = block-bytes s at fits in
+    let long = facts .long in
+    let size : length (blockAt s at) - 4 ≡ bodyLength s at = omega arith in
+    rw (j, o, b, facts .kind, size, read-at s at fits, judged-is (blocksOf s) (entryAt s at) v is)
 
--- what the code puts together is that line
-pub line-text : (s : List ℕ) (at next k v : ℕ) (own read : BlockRead) → next ≡ nextAt s at → v ≡ verdictOf (readIn (blocksOf s) (entryAt s at)) →
-    own ≡ readBlock (getD s at 0) (getD s (at + 1) 0) (take (next - (at + 4)) (drop (at + 4) s)) → read ≡ judgedBy own v →
-    blockLine k (getD s at 0) (next - (at + 4)) read ≡ lineAt s at k
-unfolding entryAt
-line-text s at next k v own read e is o j =
-    let size : next - (at + 4) ≡ bodyLength s at = omega arith in
-    rw (j, o, size) (line-is s at k v is)
+pub line-some : (s : List ℕ) (at : ℕ) (bytes : List ℕ) → nextAt s at ≤ length s → bytes ≡ blockAt s at → 4 ≤ length bytes
+line-some s at bytes fits b = let long = block-bytes s at fits .long in rw b (omega arith)
 
 pub line-fits : (s : List ℕ) (at k : ℕ) → length (lineAt s at k) ≤ lineRoom
 unfolding lineAt

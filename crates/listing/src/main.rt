@@ -9,7 +9,7 @@ ghost use Prim.Native.Nat.{_+_, _≤_};
 ghost use lib.ListN.{length};
 ghost use Rattle.frame.specs.Frames.{nextAt, entryAt};
 ghost use Rattle.packet.specs.Blocks.{readIn};
-ghost use Rattle.packet.specs.Steps.{Inside, blocksOf};
+ghost use Rattle.packet.specs.Steps.{blocksOf};
 ghost use Rattle.survey.specs.Survey.{verdictOf};
 ghost use Rattle.lines.specs.Lines.{lineRoom};
 ghost use Rattle.listing.specs.Room.{Listed, judgedBy, lineAt, Added};
@@ -55,31 +55,22 @@ fn list_blocks(s: &[u8], table: &[u32], count: usize, page: &mut [u8])
     let mut k = 0;
     while at < s.len() {
         end = make_room(page, end);
-        let next = frame::next_block(s, at);
-        end = put_line(s, at, next, k, table[2 * k + 1], page, end);
-        at = next;
+        end = put_line(s, at, k, table[2 * k + 1], page, end);
+        let bytes = frame::block_at(s, at);
+        at += bytes.len();
         k += 1;
     }
     send(page, end);
 }
 
-// The line of block number k, which stands from at to next.
-fn put_line(
-    s: &[u8],
-    at: usize,
-    next: usize,
-    k: usize,
-    verdict: u32,
-    page: &mut [u8],
-    end: usize,
-) -> usize
-    requires { ⌜ Inside (now s) at × (next ≡ nextAt (now s) at) × (verdict ≡ verdictOf (readIn (blocksOf (now s)) (entryAt (now s) at))) × (end + lineRoom ≤ length (now page)) ⌝ }
+// The line of block number k, which stands at offset at.
+fn put_line(s: &[u8], at: usize, k: usize, verdict: u32, page: &mut [u8], end: usize) -> usize
+    requires { ⌜ (nextAt (now s) at ≤ length (now s)) × (verdict ≡ verdictOf (readIn (blocksOf (now s)) (entryAt (now s) at))) × (end + lineRoom ≤ length (now page)) ⌝ }
     ensures { λ r. ⌜ Added (now (page .entry)) end (now (page .exit)) r (lineAt (now (s .entry)) at k) ⌝ }
 {
-    let start = at + 4;
-    let kind = s[at];
-    let read = judged(block::read(kind, s[at + 1], &s[start..next]), verdict);
-    lines::put_block(page, end, k, kind, next - start, read)
+    let bytes = frame::block_at(s, at);
+    let read = judged(block::read_bytes(bytes), verdict);
+    lines::put_block(page, end, k, bytes[0], bytes.len() - 4, read)
 }
 
 // A block read by itself, judged by its verdict among the blocks of its packet: only D4 is added.

@@ -8,15 +8,15 @@ use mathlib.Core.List.{List, [], _∷_}
 use native.Mathlib.Omega.{arith}
 use Rattle.refusal.specs.Answer.{unless}
 use Rattle.block.specs.Types.{unmeasured}
-use Rattle.block.specs.Reading.{readBlock, needsOf}
-use Rattle.block.proofs.Reasons.{never-unmeasured}
+use Rattle.block.specs.Reading.{needsOf}
+use Rattle.block.proofs.Reasons.{own-reasons}
 use Rattle.block.specs.declared.Block.{Block}
 use Rattle.block.specs.declared.BlockRead.{BlockRead}
 use Rattle.block.specs.declared.BlockRead.the-variants.{Typed, Unknown, Dropped}
 use Rattle.block.specs.declared.Needs.{Needs}
 use Rattle.block.specs.declared.Needs.the-variants.{Nothing, MeasurementOf}
 use Rattle.frame.specs.Frames.{Entry}
-use Rattle.packet.specs.Blocks.{measures, measured, given, judged, readIn}
+use Rattle.packet.specs.Blocks.{readAlone, measures, measured, given, judged, readIn}
 use Rattle.packet.specs.Laws.{Own-but-unmeasured, Unmeasured, Unmeasured-exactly, Measured-anywhere}
 
 -- the cases of `judged`
@@ -45,33 +45,31 @@ by-needs es (Typed b) = go (needsOf b)
     go (MeasurementOf source) = either (measured source es)
 
 pub own-but-unmeasured : Own-but-unmeasured
-unfolding readIn
-own-but-unmeasured es e = by-needs es (readBlock (e .kind) (e .specific) (e .body))
+own-but-unmeasured es e = by-needs es (readAlone e)
 
 -- D4 exactly where a typed block needs a measurement of its source that stands nowhere in the packet.
 unmeasured-only : (es : List Entry) (e : Entry) → readIn es e ≡ Dropped unmeasured → Unmeasured es e
-unfolding readIn
-unmeasured-only es e dropped = go (readBlock (e .kind) (e .specific) (e .body)) refl dropped
+unfolding readAlone
+unmeasured-only es e dropped = go (readAlone e) refl dropped
   where
-    by-place : (b : Block) (source : ℕ) (m : Bool) → readBlock (e .kind) (e .specific) (e .body) ≡ Typed b → needsOf b ≡ MeasurementOf source → measured source es ≡ m →
+    by-place : (b : Block) (source : ℕ) (m : Bool) → readAlone e ≡ Typed b → needsOf b ≡ MeasurementOf source → measured source es ≡ m →
         unless m (Dropped unmeasured) (Typed b) ≡ Dropped unmeasured → Unmeasured es e
     by-place b source true t n m h = let z : _≡_ {A = ℕ} 0 1 = cc in absurd (omega arith)
     by-place b source false t n m h = record { block = b; source = source; typed = t; needs = n; nowhere = m }
 
-    by-need : (b : Block) (needs : Needs) → readBlock (e .kind) (e .specific) (e .body) ≡ Typed b → needsOf b ≡ needs →
+    by-need : (b : Block) (needs : Needs) → readAlone e ≡ Typed b → needsOf b ≡ needs →
         given es needs (Typed b) ≡ Dropped unmeasured → Unmeasured es e
     by-need b Nothing t n h = let z : _≡_ {A = ℕ} 0 1 = cc in absurd (omega arith)
     by-need b (MeasurementOf source) t n h = by-place b source (measured source es) t n refl h
 
-    go : (own : BlockRead) → readBlock (e .kind) (e .specific) (e .body) ≡ own → judged es own ≡ Dropped unmeasured → Unmeasured es e
+    go : (own : BlockRead) → readAlone e ≡ own → judged es own ≡ Dropped unmeasured → Unmeasured es e
     go (Typed b) t h = by-need b (needsOf b) t refl h
     go Unknown t h = let z : _≡_ {A = ℕ} 0 1 = cc in absurd (omega arith)
-    go (Dropped reason) t h = absurd (never-unmeasured (e .kind) (e .specific) (e .body) (t ∙ h))
+    go (Dropped reason) t h = absurd (omega (arith, own-reasons (e .kind) (e .specific) (e .body) unmeasured (t ∙ h) .1))
 
 pub unmeasured-exactly : Unmeasured-exactly
-unfolding readIn
 unmeasured-exactly es e =
-    (unmeasured-only es e, λ u. sym (lacks-measurement es (readBlock (e .kind) (e .specific) (e .body)) (u .block) (u .source) (u .typed) (u .needs) (u .nowhere)))
+    (unmeasured-only es e, λ u. sym (lacks-measurement es (readAlone e) (u .block) (u .source) (u .typed) (u .needs) (u .nowhere)))
 
 or-true : (a : Bool) → (a || true) ≡ true
 or-true true = refl

@@ -1,75 +1,65 @@
--- Whether a measurement block stands anywhere: one block, and the walk over all. Assumes nothing.
+-- A block at its place read by itself, and whether a measurement block stands anywhere: the walk over all. Assumes
+-- nothing.
 use Prim.Native.Nat.{ℕ, _+_, _<_, _≤_}
 use mathlib.Core.Path.{_≡_, refl, sym, ap, _∙_}
-use mathlib.Core.Bool.{true, false}
+use mathlib.Core.Bool.{Bool, true, false}
 use mathlib.Core.List.{List, []}
 use native.Mathlib.Omega.{arith}
-use lib.Dec.{eqb}
-use lib.ListN.{length, getD, take, drop, length-take, length-drop}
-use lib.Seq.{getD-take, getD-drop}
-use Rattle.wire.specs.BigEndian.{be16, be32}
-use Rattle.block.specs.Reading.{measuredBy}
-use Rattle.block.specs.declared.Measures.the-variants.{Source, Nothing}
-use Rattle.frame.specs.Frames.{Entry, whole, bodyLength, nextAt, entryAt, framesAt, firstBlock}
+use borrow.Author.Tests.{le-leb}
+use lib.ListN.{length}
+use Rattle.block.specs.Reading.{readBytes, measuresOf}
+use Rattle.frame.specs.Frames.{Entry, whole, nextAt, entryAt, blockAt, framesIn, firstBlock}
 use Rattle.frame.proofs.Stepping.{first-of, at-end}
-use Rattle.packet.specs.Blocks.{measures, measured}
-use Rattle.packet.specs.Steps.{Inside, blocksOf, Whole}
+use Rattle.frame.proofs.Blocks.{block-bytes}
+use Rattle.packet.specs.Blocks.{readAlone, names, measures, measured}
+use Rattle.packet.specs.Steps.{blocksOf, Whole}
 
-pub body-length : (s : List ℕ) (at : ℕ) → Inside s at → length (entryAt s at .body) ≡ bodyLength s at
-unfolding entryAt
-body-length s at i = let e = i .ends in simp (length-take, length-drop) (omega arith)
-
-pub body-is : (s : List ℕ) (at : ℕ) → take (bodyLength s at) (drop (at + 4) s) ≡ entryAt s at .body
-unfolding entryAt
-body-is s at = refl
-
-part-at : (s : List ℕ) (at n j : ℕ) → j < n → getD (take n (drop at s)) j 0 ≡ getD s (at + j) 0
-part-at s at n j h = getD-take n (drop at s) j 0 h ∙ getD-drop at s j 0
-
--- a number in the body is the number in the packet
-pub be32-body : (s : List ℕ) (at n : ℕ) → 4 ≤ n → be32 (take n (drop at s)) 0 ≡ be32 s at
-unfolding be32 be16
-be32-body s at n h =
-    let none : at + 0 ≡ at = omega arith in
-    let last : at + 2 + 1 ≡ at + 3 = omega arith in
-    rw (part-at s at n 0 (omega arith), part-at s at n 1 (omega arith), part-at s at n 2 (omega arith), part-at s at n 3 (omega arith), none, last)
-
--- what a block measures, as the test of each source
-pub names-source : (e : Entry) (x : ℕ) → measuredBy (e .kind) (e .body) ≡ Source x → (y : ℕ) → measures y e ≡ eqb x y
-unfolding measures
-names-source e x m y = rw m
-
-pub names-nothing : (e : Entry) → measuredBy (e .kind) (e .body) ≡ Nothing → (y : ℕ) → measures y e ≡ false
-unfolding measures
-names-nothing e m y = rw m
+-- the bytes of a block read as its entry
+pub read-at : (s : List ℕ) (at : ℕ) → nextAt s at ≤ length s → readBytes (blockAt s at) ≡ readAlone (entryAt s at)
+unfolding readBytes readAlone
+read-at s at h =
+    let b = block-bytes s at h in
+    let long = b .long in
+    rw (le-leb 4 (length (blockAt s at)) (omega arith), b .kind, b .specific, b .body)
 
 -- The search stands at `at`: none of the blocks passed measures the source.
 pub record Search (s : List ℕ) (source at : ℕ) : Type 0 where
   pub left : List Entry
-  pub frames : framesAt s at ≡ whole left
+  pub frames : framesIn s at (length s) ≡ whole left
   pub same : measured source (blocksOf s) ≡ measured source left
 
 pub search-start : (s : List ℕ) (source : ℕ) → Whole s → Search s source firstBlock
 search-start s source w = record { left = blocksOf s; frames = w; same = refl }
 
-pub search-inside : (s : List ℕ) (source at : ℕ) → Search s source at → at < length s → Inside s at
-search-inside s source at r h = record { starts = h; ends = first-of s at (r .left) h (r .frames) .fits }
+module _ (s : List ℕ) (source at : ℕ) (r : Search s source at) where
+  -- what the test of the block here answered is about its entry
+  module _ (h : at < length s) where
+    pub search-fits : nextAt s at ≤ length s
+    search-fits = first-of s at (length s) (r .left) h (r .frames) .fits
 
-pub search-found : (s : List ℕ) (source at : ℕ) → Search s source at → at < length s → measures source (entryAt s at) ≡ true → true ≡ measured source (blocksOf s)
-unfolding measured
-search-found s source at r h m =
-    let f = first-of s at (r .left) h (r .frames) in
-    sym (r .same ∙ ap (measured source) (f .first) ∙ rw m)
+    here : (t : Bool) (bytes : List ℕ) → bytes ≡ blockAt s at → t ≡ names (measuresOf (readBytes bytes)) source → t ≡ measures source (entryAt s at)
+    here t bytes b m = m ∙ ap (λ (x : List ℕ). names (measuresOf (readBytes x)) source) b ∙ ap (λ a. names (measuresOf a) source) (read-at s at search-fits)
 
-pub search-on : (s : List ℕ) (source at next : ℕ) → Search s source at → at < length s → measures source (entryAt s at) ≡ false → next ≡ nextAt s at → Search s source next
-unfolding measured
-search-on s source at next r h m e =
-    let f = first-of s at (r .left) h (r .frames) in
-    rw e (record { left = f .rest; frames = f .after; same = r .same ∙ ap (measured source) (f .first) ∙ rw m })
+    pub search-long : (bytes : List ℕ) → bytes ≡ blockAt s at → at + length bytes ≡ nextAt s at
+    search-long bytes b = let l = block-bytes s at search-fits .long in let e = ap length b in omega arith
 
-pub search-end : (s : List ℕ) (source at : ℕ) → Search s source at → length s ≤ at → false ≡ measured source (blocksOf s)
-unfolding measured
-search-end s source at r h =
-    let none : whole (r .left) ≡ whole [] = sym (r .frames) ∙ at-end s at h in
-    let empty : r .left ≡ [] = cc in
-    sym (r .same ∙ ap (measured source) empty)
+    pub search-found : (t : Bool) (bytes : List ℕ) → bytes ≡ blockAt s at → t ≡ names (measuresOf (readBytes bytes)) source → t ≡ true → true ≡ measured source (blocksOf s)
+    unfolding measured
+    search-found t bytes b m y =
+        let f = first-of s at (length s) (r .left) h (r .frames) in
+        let is : measures source (entryAt s at) ≡ true = sym (here t bytes b m) ∙ y in
+        sym (r .same ∙ ap (measured source) (f .first) ∙ rw is)
+
+    pub search-on : (t : Bool) (bytes : List ℕ) → bytes ≡ blockAt s at → t ≡ names (measuresOf (readBytes bytes)) source → t ≡ false → Search s source (at + length bytes)
+    unfolding measured
+    search-on t bytes b m n =
+        let f = first-of s at (length s) (r .left) h (r .frames) in
+        let is : measures source (entryAt s at) ≡ false = sym (here t bytes b m) ∙ n in
+        rw (search-long bytes b) (record { left = f .rest; frames = f .after; same = r .same ∙ ap (measured source) (f .first) ∙ rw is })
+
+  pub search-end : length s ≤ at → false ≡ measured source (blocksOf s)
+  unfolding measured
+  search-end h =
+      let none : whole (r .left) ≡ whole [] = sym (r .frames) ∙ at-end s at (length s) h in
+      let empty : r .left ≡ [] = cc in
+      sym (r .same ∙ ap (measured source) empty)

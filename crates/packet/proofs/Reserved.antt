@@ -1,133 +1,137 @@
--- Packets that differ in reserved bits alone give the same answers: `Reserved-in-packet` of specs/Reserved.antt.
--- Assumes nothing.
-use Prim.Native.Nat.{ℕ, zero, suc, _+_}
-use mathlib.Core.Path.{_≡_, refl, sym, ap, _∙_}
-use mathlib.Core.Logic.{_⊎_, ⊎-elim}
+-- Reserved bits are ignored: clearing a packet's blocks changes no answer, so packets that are equal once cleared are read
+-- alike; and so are bytes. `Reserved-in-packet` and `Reserved-bytes` of specs/Reserved.antt. Assumes nothing.
+use Prim.Native.Nat.{ℕ, zero, suc, _+_, _*_, _/_, _<_, _≤_}
+use mathlib.Core.Path.{_≡_, refl, sym, ap, ap₂, _∙_}
 use mathlib.Core.List.{List, [], _∷_}
 use native.Mathlib.Omega.{arith}
-use lib.ListN.{length, set, length-set}
-use Rattle.wire.proofs.Changed.{be32-set}
-use Rattle.block.specs.Types.{measurementType, effectiveType}
-use Rattle.block.specs.Reading.{readBlock, needsOf, measuredBy}
+use lib.ListN.{length, getD}
+use Rattle.wire.specs.BigEndian.{be16, be32}
+use Rattle.block.specs.Reading.{needsOf}
 use Rattle.block.specs.declared.BlockRead.{BlockRead}
 use Rattle.block.specs.declared.BlockRead.the-variants.{Typed, Unknown, Dropped}
 use Rattle.block.specs.declared.Needs.{Needs}
 use Rattle.block.specs.declared.Needs.the-variants.{Nothing, MeasurementOf}
-use Rattle.block.proofs.Reserved.{reserved-specific, reserved-byte, reserved-measurement, reserved-effective}
-use Rattle.frame.specs.Frames.{Entry}
+use Rattle.block.proofs.Reserved.{read-cleared, cleared-size}
+use Rattle.frame.specs.declared.Extent.the-variants.{Whole as Extent·Whole}
+use Rattle.frame.specs.Frames.{Entry, nextAt, entryAt, firstBlock}
+use Rattle.frame.specs.Packet.{Packet, good, bad, Numbered, none, one, numbered, placeOf, sizeIn}
+use Rattle.frame.specs.Laws.{Fill, Made}
+use Rattle.frame.proofs.FirstBytes.{Head, head-facts, head-good}
+use Rattle.frame.proofs.Filling.{packet-exactly}
+use Rattle.packet.specs.Blocks.{readAlone, measured, given, judged, readIn}
 use Rattle.packet.specs.declared.PacketHead.the-variants.{Sent}
-use Rattle.packet.specs.declared.BlockAt.the-variants.{Found}
-use Rattle.packet.specs.Blocks.{measures, measured, given, judged, readIn}
-use Rattle.packet.specs.Answers.{pick, pickBody, pickStart}
-use Rattle.packet.specs.Reserved.{Apart, Reserved, AllReserved, Reserved-in-packet}
+use Rattle.packet.specs.Answers.{headOf, found, blockOf, bodyIn, startIn, partOf}
+use Rattle.packet.specs.Reserved.{cleared, clearedAll, clearedPacket, Same, Reserved-in-packet, Reserved-bytes}
 
--- a body that is changed in reserved bytes reads the same and measures the same
-module _ (kind specific : ℕ) (body body′ : List ℕ) where
-  changed-14 : kind ≡ measurementType → Apart 4 body body′ → readBlock kind specific body ≡ readBlock kind specific body′
-  unfolding readBlock
-  changed-14 k a = rw (k, a .is) (sym (reserved-measurement body (a .first) (a .second)))
+-- clearing changes no block by itself, none among others, and no place or size
+pub clear-alone : (e : Entry) → readAlone (cleared e) ≡ readAlone e
+unfolding readAlone
+clear-alone e = read-cleared (e .kind) (e .specific) (e .body)
 
-  changed-240 : kind ≡ effectiveType → Apart 6 body body′ → readBlock kind specific body ≡ readBlock kind specific body′
-  unfolding readBlock
-  changed-240 k a = rw (k, a .is) (sym (reserved-effective body (a .first) (a .second)))
+clear-measured : (source : ℕ) (es : List Entry) → measured source (clearedAll es) ≡ measured source es
+unfolding measured clearedAll
+clear-measured source [] = refl
+clear-measured source (e ∷ es) = rw (clear-alone e, clear-measured source es)
 
-  measured-14 : kind ≡ measurementType → Apart 4 body body′ → measuredBy kind body ≡ measuredBy kind body′
-  unfolding measuredBy
-  measured-14 k a =
-      let x = a .first in
-      let y = a .second in
-      rw (k, a .is, length-set (set body 4 x) 5 y, length-set body 4 x, be32-set (set body 4 x) 0 5 y (λ h. omega arith), be32-set body 0 4 x (λ h. omega arith))
+pub clear-read : (es : List Entry) (e : Entry) → readIn (clearedAll es) (cleared e) ≡ readIn es e
+clear-read es e = rw (clear-alone e) (go (readAlone e))
+  where
+    by-need : (needs : Needs) (answer : BlockRead) → given (clearedAll es) needs answer ≡ given es needs answer
+    by-need Nothing answer = refl
+    by-need (MeasurementOf source) answer = rw (clear-measured source es)
 
-  measured-240 : kind ≡ effectiveType → measuredBy kind body ≡ measuredBy kind body′
-  unfolding measuredBy
-  measured-240 k = rw k
+    go : (own : BlockRead) → judged (clearedAll es) own ≡ judged es own
+    go (Typed b) = by-need (needsOf b) (Typed b)
+    go Unknown = refl
+    go (Dropped reason) = refl
 
--- a block by itself
-module _ (e e′ : Entry) (r : Reserved e e′) where
-  own-byte : readBlock (e .kind) (e .specific) (e .body) ≡ readBlock (e .kind) (e′ .specific) (e .body)
-  own-byte =
-      ⊎-elim (λ low. reserved-specific (e .kind) (e .specific) (e′ .specific) (e .body) low)
-      (λ n. reserved-byte (e .kind) (n .0) (n .1) (e .specific) (e′ .specific) (e .body)) (r .byte)
+clear-length : (es : List Entry) → length (clearedAll es) ≡ length es
+unfolding clearedAll
+clear-length [] = refl
+clear-length (e ∷ es) = ap suc (clear-length es)
 
-  own-words : readBlock (e .kind) (e′ .specific) (e .body) ≡ readBlock (e .kind) (e′ .specific) (e′ .body)
-  own-words =
-      ⊎-elim (λ same. ap (readBlock (e .kind) (e′ .specific)) same)
-      (⊎-elim (λ m. changed-14 (e .kind) (e′ .specific) (e .body) (e′ .body) (m .0) (m .1)) (λ m. changed-240 (e .kind) (e′ .specific) (e .body) (e′ .body) (m .0) (m .1))) (r .words)
+abbrev clearedOne : Numbered → Numbered
+clearedOne none = none
+clearedOne (one e) = one (cleared e)
 
-  own : readBlock (e .kind) (e .specific) (e .body) ≡ readBlock (e′ .kind) (e′ .specific) (e′ .body)
-  own = own-byte ∙ own-words ∙ ap (λ (k : ℕ). readBlock k (e′ .specific) (e′ .body)) (r .same-kind)
+clear-number : (es : List Entry) (k : ℕ) → numbered (clearedAll es) k ≡ clearedOne (numbered es k)
+unfolding numbered clearedAll
+clear-number [] k = refl
+clear-number (e ∷ es) zero = refl
+clear-number (e ∷ es) (suc k) = clear-number es k
 
-  source-words : measuredBy (e .kind) (e .body) ≡ measuredBy (e .kind) (e′ .body)
-  source-words =
-      ⊎-elim (λ same. ap (measuredBy (e .kind)) same)
-      (⊎-elim (λ m. measured-14 (e .kind) (e′ .specific) (e .body) (e′ .body) (m .0) (m .1)) (λ m. measured-240 (e .kind) (e′ .specific) (e .body) (e′ .body) (m .0))) (r .words)
+clear-same : (p : Packet) → Same (clearedPacket p) p
+clear-same (bad r) = record { head = refl; block = λ k. refl; part = λ k. refl }
+clear-same (good sender es) =
+    record {
+      head = ap (Sent sender) (clear-length es);
+      block = λ k. rw (clear-number es k) (block (numbered es k));
+      part = λ k. let n = clear-number es k in λ i. record { start = (ap startIn n ∙ start (numbered es k)) i; length = (ap (λ (x : Numbered). length (bodyIn x)) n ∙ size (numbered es k)) i };
+    }
+  where
+    block : (n : Numbered) → found (clearedAll es) (clearedOne n) ≡ found es n
+    block none = refl
+    block (one e) = rw (clear-read es e)
 
-  same-measures : (source : ℕ) → measures source e ≡ measures source e′
-  unfolding measures
-  same-measures source = rw (source-words, r .same-kind)
+    start : (n : Numbered) → startIn (clearedOne n) ≡ startIn n
+    start none = refl
+    start (one e) = refl
 
--- among the blocks of the packet
-all-measured : (source : ℕ) (es es′ : List Entry) → AllReserved es es′ → measured source es ≡ measured source es′
-unfolding measured
-all-measured source [] [] all = refl
-all-measured source [] (e′ ∷ es′) all = absurd all
-all-measured source (e ∷ es) [] all = absurd all
-all-measured source (e ∷ es) (e′ ∷ es′) all = rw (same-measures e e′ (all .0) source, all-measured source es es′ (all .1))
-
-all-given : (es es′ : List Entry) → AllReserved es es′ → (needs : Needs) (answer : BlockRead) → given es needs answer ≡ given es′ needs answer
-all-given es es′ all Nothing answer = refl
-all-given es es′ all (MeasurementOf source) answer = rw (all-measured source es es′ all)
-
-all-judged : (es es′ : List Entry) → AllReserved es es′ → (answer : BlockRead) → judged es answer ≡ judged es′ answer
-all-judged es es′ all (Typed b) = all-given es es′ all (needsOf b) (Typed b)
-all-judged es es′ all Unknown = refl
-all-judged es es′ all (Dropped reason) = refl
-
-pub same-read : (es es′ : List Entry) → AllReserved es es′ → (e e′ : Entry) → Reserved e e′ → readIn es e ≡ readIn es′ e′
-unfolding readIn
-same-read es es′ all e e′ r = all-judged es es′ all (readBlock (e .kind) (e .specific) (e .body)) ∙ ap (judged es′) (own e e′ r)
-
-picked : (es es′ : List Entry) → AllReserved es es′ → (left left′ : List Entry) → AllReserved left left′ → (k : ℕ) → pick es left k ≡ pick es′ left′ k
-unfolding pick
-picked es es′ all [] [] rest k = refl
-picked es es′ all [] (e′ ∷ left′) rest k = absurd rest
-picked es es′ all (e ∷ left) [] rest k = absurd rest
-picked es es′ all (e ∷ left) (e′ ∷ left′) rest zero = ap (λ (n : ℕ). Found n (readIn es e)) (rest .0 .same-kind) ∙ ap (Found (e′ .kind)) (same-read es es′ all e e′ (rest .0))
-picked es es′ all (e ∷ left) (e′ ∷ left′) rest (suc k) = picked es es′ all left left′ (rest .1) k
-
--- the bodies
-apart-length : (p : ℕ) (body body′ : List ℕ) → Apart p body body′ → length body ≡ length body′
-apart-length p body body′ a = sym (ap length (a .is) ∙ length-set (set body p (a .first)) (p + 1) (a .second) ∙ length-set body p (a .first))
-
-body-size : (e e′ : Entry) → Reserved e e′ → length (e .body) ≡ length (e′ .body)
-body-size e e′ r = ⊎-elim (λ same. ap length same) (⊎-elim (λ m. apart-length 4 (e .body) (e′ .body) (m .1)) (λ m. apart-length 6 (e .body) (e′ .body) (m .1))) (r .words)
-
-sized : (es es′ : List Entry) → AllReserved es es′ → (k : ℕ) → length (pickBody es k) ≡ length (pickBody es′ k)
-unfolding pickBody
-sized [] [] all k = refl
-sized [] (e′ ∷ es′) all k = absurd all
-sized (e ∷ es) [] all k = absurd all
-sized (e ∷ es) (e′ ∷ es′) all zero = body-size e e′ (all .0)
-sized (e ∷ es) (e′ ∷ es′) all (suc k) = sized es es′ (all .1) k
-
-starts : (es es′ : List Entry) → AllReserved es es′ → (k : ℕ) → pickStart es k ≡ pickStart es′ k
-unfolding pickStart
-starts [] [] all k = refl
-starts [] (e′ ∷ es′) all k = absurd all
-starts (e ∷ es) [] all k = absurd all
-starts (e ∷ es) (e′ ∷ es′) all zero = ap (λ (n : ℕ). n + 4) (all .0 .same-place)
-starts (e ∷ es) (e′ ∷ es′) all (suc k) = starts es es′ (all .1) k
-
-pub all-long : (es es′ : List Entry) → AllReserved es es′ → length es ≡ length es′
-all-long [] [] all = refl
-all-long [] (e′ ∷ es′) all = absurd all
-all-long (e ∷ es) [] all = absurd all
-all-long (e ∷ es) (e′ ∷ es′) all = ap suc (all-long es es′ (all .1))
+    size : (n : Numbered) → length (bodyIn (clearedOne n)) ≡ length (bodyIn n)
+    size none = refl
+    size (one e) = cleared-size (e .kind) (e .body)
 
 pub reserved-in-packet : Reserved-in-packet
-reserved-in-packet sender es es′ all =
+reserved-in-packet p p′ e =
+    let a = clear-same p in
+    let b = clear-same p′ in
     record {
-      head = ap (Sent sender) (all-long es es′ all);
-      block = λ k. picked es es′ all es es′ all k;
-      part = λ k. λ i. record { start = starts es es′ all k i; length = sized es es′ all k i };
+      head = sym (a .head) ∙ ap headOf e ∙ b .head;
+      block = λ k. sym (a .block k) ∙ ap (λ (x : Packet). blockOf x k) e ∙ b .block k;
+      part = λ k. sym (a .part k) ∙ ap (λ (x : Packet). partOf x k) e ∙ b .part k;
     }
+
+-- the blocks of bytes that are alike
+record Filled (s : List ℕ) (at to : ℕ) (es : List Entry) : Type 0 where
+  blocks : List Entry
+  fill : Fill s at to blocks
+  same : clearedAll es ≡ clearedAll blocks
+
+alike : (s s′ : List ℕ) (es : List Entry) (at to : ℕ) → Fill s at to es →
+    ((k : ℕ) → k < length es → (nextAt s (placeOf es k) ≡ nextAt s′ (placeOf es k)) × (cleared (entryAt s (placeOf es k)) ≡ cleared (entryAt s′ (placeOf es k)))) → Filled s′ at to es
+unfolding clearedAll numbered entryAt
+alike s s′ [] at to f a = record { blocks = []; fill = f; same = refl }
+alike s s′ (e ∷ es) at to f a =
+    let here = rw (f .0) at (a zero (omega arith)) in
+    let rest = alike s s′ es (nextAt s at) to (f .1) (λ k h. a (suc k) (omega arith)) in
+    record {
+      blocks = entryAt s′ at ∷ rest .blocks;
+      fill = (refl, rw (← here .0) (rest .fill));
+      same = rw (f .0) (ap₂ (λ (x : Entry) (l : List Entry). x ∷ l) (here .1) (rest .same));
+    }
+
+pub reserved-bytes : Reserved-bytes
+unfolding be16 be32
+reserved-bytes s s′ sender es p a =
+    let m = packet-exactly Extent·Whole s sender es .0 p in
+    let f = head-facts Extent·Whole s sender (m .size) (m .header) in
+    let new = alike s s′ es firstBlock (m .size) (m .fill) (λ k h. (omega (arith, a .size k h), a .block k h)) in
+    let first = a .first in
+    let two = f .two in
+    let plain = f .unpadded in
+    let room = f .room in
+    let long = a .long in
+    let b : (i : ℕ) → 1 ≤ i → i < firstBlock → getD s′ i 0 ≡ getD s i 0 = λ i l h. sym (a .header i l h) in
+    let size : sizeIn s′ ≡ sizeIn s = ap₂ (λ (x y : ℕ). 4 * (x * 256 + y + 1)) (b 2 (omega arith) (omega arith)) (b 3 (omega arith) (omega arith)) in
+    let head : Head Extent·Whole s′ sender (m .size) =
+    record {
+      room = omega arith;
+      two = omega arith;
+      type = b 1 (omega arith) (omega arith) ∙ f .type;
+      fits = rw (size, ← long) (f .fits);
+      unpadded = omega arith;
+      from = rw (b 4 (omega arith) (omega arith), b 5 (omega arith) (omega arith), b 6 (omega arith) (omega arith), b 7 (omega arith) (omega arith)) (f .from);
+      field = size ∙ f .field;
+    } in
+    let made : Made Extent·Whole s′ sender (new .blocks) = record { size = m .size; header = head-good Extent·Whole s′ sender (m .size) head; fill = new .fill } in
+    rw (p, packet-exactly Extent·Whole s′ sender (new .blocks) .1 made) (ap (good sender) (new .same))

@@ -6,7 +6,7 @@ use mathlib.Core.List.{List, [], _∷_}
 use lib.Dec.{eqb}
 use Rattle.refusal.specs.Answer.{unless}
 use Rattle.block.specs.Types.{unmeasured}
-use Rattle.block.specs.Reading.{readBlock, needsOf, measuredBy}
+use Rattle.block.specs.Reading.{readBlock, needsOf, measuresOf}
 use Rattle.block.specs.declared.BlockRead.{BlockRead}
 use Rattle.block.specs.declared.BlockRead.the-variants.{Typed, Unknown, Dropped}
 use Rattle.block.specs.declared.Needs.{Needs}
@@ -15,13 +15,17 @@ use Rattle.block.specs.declared.Measures.{Measures}
 use Rattle.block.specs.declared.Measures.the-variants.{Source, Nothing as Measures·Nothing}
 use Rattle.frame.specs.Frames.{Entry}
 
--- a well-sized block 14 for this source
+-- a block of a packet by itself
+unfoldable pub readAlone : Entry → BlockRead
+readAlone e = readBlock (e .kind) (e .specific) (e .body)
+
+-- a well-sized block 14 for this source: one that reads as a typed 14 for it
 abbrev pub names : Measures → ℕ → Bool
 names (Source measured) source = eqb measured source
 names Measures·Nothing source = false
 
-unfoldable pub measures : ℕ → Entry → Bool
-measures source e = names (measuredBy (e .kind) (e .body)) source
+abbrev pub measures : ℕ → Entry → Bool
+measures source e = names (measuresOf (readAlone e)) source
 
 -- one of them stands anywhere in the list
 unfoldable pub measured : ℕ → List Entry → Bool
@@ -39,5 +43,5 @@ judged es Unknown = Unknown
 judged es (Dropped reason) = Dropped reason
 
 -- a block of the packet whose blocks are es
-unfoldable pub readIn : List Entry → Entry → BlockRead
-readIn es e = judged es (readBlock (e .kind) (e .specific) (e .body))
+abbrev pub readIn : List Entry → Entry → BlockRead
+readIn es e = judged es (readAlone e)

@@ -5,25 +5,28 @@ use mathlib.Core.Bool.{true, false}
 use mathlib.Core.Logic.{_⊎_}
 use mathlib.Core.List.{List, _∷_, _++_}
 use lib.ListN.{length, take, drop}
+use Rattle.refusal.specs.Table.{noSuchBlock}
 use Rattle.block.specs.Types.{unmeasured}
-use Rattle.block.specs.Reading.{readBlock, needsOf}
+use Rattle.block.specs.Reading.{needsOf}
 use Rattle.block.specs.declared.Block.{Block}
 use Rattle.block.specs.declared.BlockRead.the-variants.{Typed, Dropped}
 use Rattle.block.specs.declared.Needs.the-variants.{MeasurementOf}
 use Rattle.frame.specs.Frames.{Entry}
 use Rattle.frame.specs.Packet.{packetOf}
-use Rattle.packet.specs.Blocks.{measures, measured, readIn}
-use Rattle.packet.specs.Answers.{bodyOf, bodyStart}
+use Rattle.packet.specs.declared.PacketHead.the-variants.{Sent}
+use Rattle.packet.specs.declared.BlockAt.the-variants.{Refused}
+use Rattle.packet.specs.Blocks.{readAlone, measures, measured, readIn}
+use Rattle.packet.specs.Answers.{headOf, blockOf, bodyOf, bodyStart}
 
 -- In a packet a block reads as by itself, but for D4.
 abbrev pub Own-but-unmeasured : Type 0
-Own-but-unmeasured = (es : List Entry) (e : Entry) → (readIn es e ≡ readBlock (e .kind) (e .specific) (e .body)) ⊎ (readIn es e ≡ Dropped unmeasured)
+Own-but-unmeasured = (es : List Entry) (e : Entry) → (readIn es e ≡ readAlone e) ⊎ (readIn es e ≡ Dropped unmeasured)
 
 -- D4 exactly where a typed block needs a measurement of its source that stands nowhere in the packet.
 pub record Unmeasured (es : List Entry) (e : Entry) : Type 0 where
   pub block : Block
   pub source : ℕ
-  pub typed : readBlock (e .kind) (e .specific) (e .body) ≡ Typed block
+  pub typed : readAlone e ≡ Typed block
   pub needs : needsOf block ≡ MeasurementOf source
   pub nowhere : measured source es ≡ false
 
@@ -41,3 +44,13 @@ pub record PartIs (s : List ℕ) (k : ℕ) : Type 0 where
 
 abbrev pub Body-is-part : Type 0
 Body-is-part = (s : List ℕ) (k : ℕ) → PartIs s k
+
+-- Refusal 7 exactly where the packet is good and k is at least the number of blocks that `head` gives.
+pub record Absent (s : List ℕ) (k : ℕ) : Type 0 where
+  pub sender : ℕ
+  pub count : ℕ
+  pub head : headOf (packetOf s) ≡ Sent sender count
+  pub past : count ≤ k
+
+abbrev pub Absent-exactly : Type 0
+Absent-exactly = (s : List ℕ) (k : ℕ) → (blockOf (packetOf s) k ≡ Refused noSuchBlock → Absent s k) × (Absent s k → blockOf (packetOf s) k ≡ Refused noSuchBlock)

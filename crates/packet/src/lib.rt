@@ -3,18 +3,17 @@
 use block::BlockRead;
 use block::Measures;
 use block::Needs;
-use frame::Header;
-use frame::Walked;
+use frame::Extent;
+use frame::Located;
 use refusal::Refusal;
 ghost use mathlib.Core.Path.{_≡_};
 ghost use Prim.Native.Nat.{_+_};
 ghost use denote.Ref.{ptr};
-ghost use Rattle.block.specs.Reading.{readBlock};
-ghost use Rattle.frame.specs.Frames.{entryAt};
+ghost use Rattle.block.specs.Reading.{readBytes, measuresOf};
 ghost use Rattle.frame.specs.Packet.{packetOf};
-ghost use Rattle.packet.specs.Blocks.{measures, measured, judged};
+ghost use Rattle.packet.specs.Blocks.{names, measured, judged};
 ghost use Rattle.packet.specs.Answers.{headOf, blockOf, bodyOf, bodyStart, partOf};
-ghost use Rattle.packet.specs.Steps.{openedOf, Inside, blocksOf, Whole};
+ghost use Rattle.packet.specs.Steps.{blocksOf, Whole};
 
 // What a packet says of itself: its sender and the number of its blocks, or why it is refused.
 pub enum PacketHead {
@@ -40,24 +39,25 @@ pub struct Part {
 pub fn head(packet: &[u8]) -> PacketHead
     ensures { λ r. ⌜ r ≡ headOf (packetOf (now (packet .entry))) ⌝ }
 {
-    match open(packet, 0) {
-        Opened::Blocks(sender, count, _) => PacketHead::Sent(sender, count),
-        Opened::Refused(r) => PacketHead::Refused(r),
+    match frame::locate(packet, Extent::Whole, 0) {
+        Located::Good(sender, count, _) => PacketHead::Sent(sender, count),
+        Located::Refused(r) => PacketHead::Refused(r),
     }
 }
 
-// Block number index, from 0.
+// Block number index, from 0. Its body is handed to the reader of its type as a part of the packet.
 pub fn block(packet: &[u8], index: usize) -> BlockAt
     ensures { λ r. ⌜ r ≡ blockOf (packetOf (now (packet .entry))) index ⌝ }
 {
-    match open(packet, index) {
-        Opened::Blocks(_, count, at) => {
+    match frame::locate(packet, Extent::Whole, index) {
+        Located::Good(_, count, at) => {
             if index < count {
-                return BlockAt::Found(packet[at], judge(packet, read_at(packet, at)));
+                let bytes = frame::block_at(packet, at);
+                return BlockAt::Found(bytes[0], judge(packet, block::read_bytes(bytes)));
             }
             BlockAt::Refused(refusal::NO_SUCH_BLOCK)
         }
-        Opened::Refused(r) => BlockAt::Refused(r),
+        Located::Refused(r) => BlockAt::Refused(r),
     }
 }
 
@@ -66,14 +66,13 @@ pub fn block(packet: &[u8], index: usize) -> BlockAt
 pub fn body_part(packet: &[u8], index: usize) -> Part
     ensures { λ r. ⌜ r ≡ partOf (packetOf (now (packet .entry))) index ⌝ }
 {
-    match open(packet, index) {
-        Opened::Blocks(_, count, at) => {
+    match frame::locate(packet, Extent::Whole, index) {
+        Located::Good(_, count, at) => {
             if index < count {
-                let start = at + 4;
-                let end = frame::next_block(packet, at);
+                let bytes = frame::block_at(packet, at);
                 return Part {
-                    start,
-                    length: end - start,
+                    start: at + 4,
+                    length: bytes.len() - 4,
                 };
             }
             Part {
@@ -81,7 +80,7 @@ pub fn body_part(packet: &[u8], index: usize) -> Part
                 length: 0,
             }
         }
-        Opened::Refused(_) => Part {
+        Located::Refused(_) => Part {
             start: 0,
             length: 0,
         },
@@ -97,35 +96,6 @@ pub fn body(packet: &[u8], index: usize) -> &[u8]
     let start = part.start;
     let end = start + part.length;
     &packet[start..end]
-}
-
-// A packet judged as a whole: its sender, the number of its blocks and the place of the one asked for.
-pub enum Opened {
-    Blocks(u32, usize, usize),
-    Refused(Refusal),
-}
-
-// The packet judged, with the place of block number index.
-pub fn open(packet: &[u8], index: usize) -> Opened
-    ensures { λ r. ⌜ r ≡ openedOf (packetOf (now (packet .entry))) index ⌝ }
-{
-    match frame::read_header(packet) {
-        Header::Sender(sender) => match frame::walk(packet, index) {
-            Walked::Blocks(count, at) => Opened::Blocks(sender, count, at),
-            Walked::Past(at) => Opened::Refused(refusal::block_past_end(at)),
-        },
-        Header::Refused(r) => Opened::Refused(r),
-    }
-}
-
-// The block at offset at, by itself: its body is handed to the reader of its type as a part of the packet.
-fn read_at(s: &[u8], at: usize) -> BlockRead
-    requires { ⌜ Inside (now s) at ⌝ }
-    ensures { λ r. ⌜ r ≡ readBlock (entryAt (now (s .entry)) at .kind) (entryAt (now (s .entry)) at .specific) (entryAt (now (s .entry)) at .body) ⌝ }
-{
-    let start = at + 4;
-    let end = frame::next_block(s, at);
-    block::read(s[at], s[at + 1], &s[start..end])
 }
 
 // A block that was read by itself, judged among the blocks of its packet: D4.
@@ -155,22 +125,20 @@ fn has_measurement(s: &[u8], source: u32) -> bool
 {
     let mut at = frame::FIRST_BLOCK;
     while at < s.len() {
-        if measures_at(s, at, source) {
+        let bytes = frame::block_at(s, at);
+        if measures(bytes, source) {
             return true;
         }
-        at = frame::next_block(s, at);
+        at += bytes.len();
     }
     false
 }
 
-// Whether the block at offset at is a well-sized measurement block for this source.
-fn measures_at(s: &[u8], at: usize, source: u32) -> bool
-    requires { ⌜ Inside (now s) at ⌝ }
-    ensures { λ r. ⌜ r ≡ measures source (entryAt (now (s .entry)) at) ⌝ }
+// Whether these are the bytes of a well-sized measurement block for this source.
+fn measures(bytes: &[u8], source: u32) -> bool
+    ensures { λ r. ⌜ r ≡ names (measuresOf (readBytes (now (bytes .entry)))) source ⌝ }
 {
-    let start = at + 4;
-    let end = frame::next_block(s, at);
-    match block::measured_by(s[at], &s[start..end]) {
+    match block::measured_by(bytes) {
         Measures::Source(measured) => measured == source,
         Measures::Nothing => false,
     }

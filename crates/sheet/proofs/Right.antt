@@ -3,11 +3,10 @@ use mathlib.Core.Path.{refl}
 use Rattle.settings.specs.Ranges.{burstInRange, batchInRange, inRange}
 use Rattle.wire.specs.BigEndian.{be16, be32, u16At}
 use Rattle.block.specs.Layouts.{measurementIn, lossIn, discardIn, effectiveIn, streamsIn}
-use Rattle.block.specs.Reading.{rateGood, flagGood, summaryFault, summaryReason, readMeasurement, readLoss, readDiscard, readEffective, readStreams, readBlock, measuredBy}
+use Rattle.block.specs.Reading.{rateGood, flagGood, summaryRead, readMeasurement, readLoss, readDiscard, readEffective, readStreams, readBlock}
 use Rattle.frame.specs.Frames.{entryAt, framesFrom}
-use Rattle.frame.specs.Packet.{headerOf, packetOf}
-use Rattle.packet.specs.Blocks.{measures, measured, readIn}
-use Rattle.packet.specs.Answers.{pick}
+use Rattle.frame.specs.Packet.{headerOf, packetIn, numbered}
+use Rattle.packet.specs.Blocks.{readAlone, measured}
 use Rattle.trace.specs.Trace.{countsAs, lengthInRange, firstBad, judged}
 use Rattle.trace.specs.Sum.{sum, bit}
 use Rattle.bursts.specs.Groups.{eventsFrom, alone, grouped, groups, bursts, duration, total}
@@ -24,5 +23,5 @@ use Rattle.card.specs.Card.{field, settingsOn, twentyDigits, checkRight, readCa
 use Rattle.sheet.specs.Sheet.{Sheet-right}
 
 pub sheet-right : Sheet-right
-unfolding burstInRange batchInRange inRange be16 be32 u16At measurementIn lossIn discardIn effectiveIn streamsIn rateGood flagGood summaryFault summaryReason readMeasurement readLoss readDiscard readEffective readStreams readBlock measuredBy entryAt framesFrom headerOf packetOf measures measured readIn pick countsAs lengthInRange firstBad judged sum bit eventsFrom alone grouped groups bursts duration total sumsOver rateOf ranged meanOf varianceOf figuresOf figuresIn overCount firstFrom firstOver judgedFor lossOf lossAnswer recent planOf planFor planAnswer bufferAfter allDigits decimal digits field settingsOn twentyDigits checkRight readCard checkOf
+unfolding burstInRange batchInRange inRange be16 be32 u16At measurementIn lossIn discardIn effectiveIn streamsIn rateGood flagGood summaryRead readMeasurement readLoss readDiscard readEffective readStreams readBlock entryAt framesFrom headerOf packetIn numbered readAlone measured countsAs lengthInRange firstBad judged sum bit eventsFrom alone grouped groups bursts duration total sumsOver rateOf ranged meanOf varianceOf figuresOf figuresIn overCount firstFrom firstOver judgedFor lossOf lossAnswer recent planOf planFor planAnswer bufferAfter allDigits decimal digits field settingsOn twentyDigits checkRight readCard checkOf
 sheet-right = refl

@@ -1,50 +1,83 @@
--- The verdict of a block by itself, by its type. Assumes nothing.
-use Prim.Native.Nat.{ℕ}
-use mathlib.Core.Path.{_≡_, refl}
-use mathlib.Core.Bool.{Bool, true, false}
-use mathlib.Core.List.{List}
-use borrow.Author.Tests.{ne-eqb, eqb-true}
-use lib.Dec.{eqb}
-use lib.ListN.{length}
+-- The verdict of a block from its bytes is that of what reading them gives, where nothing is measured. Assumes nothing.
+use Prim.Native.Nat.{ℕ, _+_, _*_, _≤_}
+use mathlib.Core.Path.{_≡_, refl, sym, ap, ap₂, _∙_}
+use mathlib.Core.Bool.{Bool, true, false, _&&_}
+use mathlib.Core.List.{List, []}
+use native.Mathlib.Omega.{arith}
+use native.Mathlib.Decide.{ℕ-discrete}
+use borrow.Author.Tests.{eq-eqb, ne-eqb, le-leb}
+use lib.ListN.{length, getD, drop, length-drop}
+use lib.Seq.{getD-drop}
 use Rattle.refusal.specs.Answer.{unless}
-use Rattle.block.specs.Types.{measurementType, lossType, discardType, effectiveType, streamsType, badSize}
-use Rattle.block.specs.Reading.{summaryReason, readMeasurement, readLoss, readDiscard, readEffective, readStreams, readBlock}
+use Rattle.wire.specs.BigEndian.{be16, u16At}
+use Rattle.wire.proofs.Numbers.{u16-inside}
+use Rattle.block.specs.Types.{measurementType, lossType, discardType, effectiveType, streamsType, measurementWords, lossWords, discardWords, effectiveWords, streamsWords, badFlag, badRate, unmeasured}
+use Rattle.block.specs.Layouts.{flagIn}
+use Rattle.block.specs.Reading.{flagGood, rateGood, summaryGood, sized, summaryRead, needsOf, readMeasurement, readLoss, readDiscard, readEffective, readStreams, readBlock, readBytes}
 use Rattle.block.specs.declared.Block.{Block}
 use Rattle.block.specs.declared.BlockRead.the-variants.{Typed, Dropped}
+use Rattle.block.specs.declared.Needs.the-variants.{Nothing, MeasurementOf}
+use Rattle.packet.specs.Blocks.{measured, judged}
 use Rattle.survey.specs.Survey.{verdictOf}
-use Rattle.survey.specs.Alone.{sizeVerdict}
+use Rattle.survey.specs.Alone.{sizeVerdict, summaryVerdict}
 
-by-size : (t : Bool) (b : Block) → unless t badSize 0 ≡ verdictOf (unless t (Dropped badSize) (Typed b))
-by-size true b = refl
-by-size false b = refl
+module _ (bytes : List ℕ) (some : 4 ≤ length bytes) where
+  abbrev body : List ℕ
+  body = drop 4 bytes
 
-by-fault : (fault : ℕ) (b : Block) (t : Bool) → eqb fault 0 ≡ t → fault ≡ verdictOf (unless t (Dropped fault) (Typed b))
-by-fault fault b true e = eqb-true fault 0 e
-by-fault fault b false e = refl
+  size-is : (words : ℕ) (b : Block) → needsOf b ≡ Nothing → sizeVerdict (length bytes) (4 + 4 * words) ≡ verdictOf (judged [] (sized words body (Typed b)))
+  size-is words b n = go (ℕ-discrete (length bytes) (4 + 4 * words))
+    where
+      go : Dec (length bytes ≡ 4 + 4 * words) → sizeVerdict (length bytes) (4 + 4 * words) ≡ verdictOf (judged [] (sized words body (Typed b)))
+      go (yes e) = rw (eq-eqb (length bytes) (4 + 4 * words) e, eq-eqb (length body) (4 * words) (omega (arith, length-drop 4 bytes)), n)
+      go (no e) = rw (ne-eqb (length bytes) (4 + 4 * words) e, ne-eqb (length body) (4 * words) (λ h. e (omega (arith, length-drop 4 bytes))))
 
-module _ (kind specific : ℕ) (body : List ℕ) where
-  pub of-measurement : kind ≡ measurementType → sizeVerdict (length body) 28 ≡ verdictOf (readBlock kind specific body)
-  unfolding readBlock readMeasurement
-  of-measurement k = rw k (by-size (eqb (length body) 28) _)
+  half : (i : ℕ) → 4 + i + 2 ≤ length bytes → u16At bytes (4 + i) ≡ be16 body i
+  unfolding be16
+  half i h =
+      let next : 4 + i + 1 ≡ 4 + (i + 1) = omega arith in
+      u16-inside bytes (4 + i) h ∙ ap₂ (λ (x y : ℕ). x * 256 + y) (sym (getD-drop 4 bytes i 0)) (ap (λ (k : ℕ). getD bytes k 0) next ∙ sym (getD-drop 4 bytes (i + 1) 0))
 
-  pub of-loss : kind ≡ lossType → summaryReason 12 specific body ≡ verdictOf (readBlock kind specific body)
-  unfolding readBlock readLoss
-  of-loss k = rw k (by-fault (summaryReason 12 specific body) _ _ refl)
+  summary-is : (words flag : ℕ) (b : Block) (source : ℕ) → 2 ≤ words → needsOf b ≡ MeasurementOf source →
+      summaryVerdict bytes (4 + 4 * words) flag ≡ verdictOf (judged [] (sized words body (summaryRead flag (be16 body 4) (be16 body 6) b)))
+  unfolding summaryRead summaryGood measured
+  summary-is words flag b source w n = go (ℕ-discrete (length bytes) (4 + 4 * words))
+    where
+      tests : (f r : Bool) → unless f badFlag (unless (f && r) badRate unmeasured) ≡ verdictOf (judged [] (unless f (Dropped badFlag) (unless r (Dropped badRate) (Typed b))))
+      tests false r = refl
+      tests true false = refl
+      tests true true = rw n
 
-  pub of-discard : kind ≡ discardType → summaryReason 8 specific body ≡ verdictOf (readBlock kind specific body)
-  unfolding readBlock readDiscard
-  of-discard k = rw k (by-fault (summaryReason 8 specific body) _ _ refl)
+      go : Dec (length bytes ≡ 4 + 4 * words) → summaryVerdict bytes (4 + 4 * words) flag ≡ verdictOf (judged [] (sized words body (summaryRead flag (be16 body 4) (be16 body 6) b)))
+      go (yes e) =
+          rw (eq-eqb (length bytes) (4 + 4 * words) e, eq-eqb (length body) (4 * words) (omega (arith, length-drop 4 bytes)), half 4 (omega arith), half 6 (omega arith))
+          (tests (flagGood flag) (rateGood (be16 body 4) && rateGood (be16 body 6)))
+      go (no e) = rw (ne-eqb (length bytes) (4 + 4 * words) e, ne-eqb (length body) (4 * words) (λ h. e (omega (arith, length-drop 4 bytes))))
 
-  pub of-effective : kind ≡ effectiveType → sizeVerdict (length body) 8 ≡ verdictOf (readBlock kind specific body)
-  unfolding readBlock readEffective
-  of-effective k = rw k (by-size (eqb (length body) 8) _)
+  -- the cases of a type
+  abbrev Is : ℕ → Type 0
+  Is verdict = verdict ≡ verdictOf (judged [] (readBytes bytes))
 
-  pub of-streams : kind ≡ streamsType → sizeVerdict (length body) 44 ≡ verdictOf (readBlock kind specific body)
-  unfolding readBlock readStreams
-  of-streams k = rw k (by-size (eqb (length body) 44) _)
+  pub of-measurement : getD bytes 0 0 ≡ measurementType → Is (sizeVerdict (length bytes) (4 + 4 * measurementWords))
+  unfolding readBytes readBlock readMeasurement
+  of-measurement k = rw (le-leb 4 (length bytes) some, k) (size-is measurementWords _ refl)
 
-  pub of-others : (kind ≡ measurementType → ⊥) → (kind ≡ lossType → ⊥) → (kind ≡ discardType → ⊥) → (kind ≡ effectiveType → ⊥) → (kind ≡ streamsType → ⊥) →
-      255 ≡ verdictOf (readBlock kind specific body)
-  unfolding readBlock
-  of-others a b c d e =
-      rw (ne-eqb kind measurementType a, ne-eqb kind lossType b, ne-eqb kind discardType c, ne-eqb kind effectiveType d, ne-eqb kind streamsType e)
+  pub of-loss : getD bytes 0 0 ≡ lossType → Is (summaryVerdict bytes (4 + 4 * lossWords) (flagIn (getD bytes 1 0)))
+  unfolding readBytes readBlock readLoss
+  of-loss k = rw (le-leb 4 (length bytes) some, k) (summary-is lossWords (flagIn (getD bytes 1 0)) _ _ (omega arith) refl)
+
+  pub of-discard : getD bytes 0 0 ≡ discardType → Is (summaryVerdict bytes (4 + 4 * discardWords) (flagIn (getD bytes 1 0)))
+  unfolding readBytes readBlock readDiscard
+  of-discard k = rw (le-leb 4 (length bytes) some, k) (summary-is discardWords (flagIn (getD bytes 1 0)) _ _ (omega arith) refl)
+
+  pub of-effective : getD bytes 0 0 ≡ effectiveType → Is (sizeVerdict (length bytes) (4 + 4 * effectiveWords))
+  unfolding readBytes readBlock readEffective
+  of-effective k = rw (le-leb 4 (length bytes) some, k) (size-is effectiveWords _ refl)
+
+  pub of-streams : getD bytes 0 0 ≡ streamsType → Is (sizeVerdict (length bytes) (4 + 4 * streamsWords))
+  unfolding readBytes readBlock readStreams
+  of-streams k = rw (le-leb 4 (length bytes) some, k) (size-is streamsWords _ refl)
+
+  pub of-others : (getD bytes 0 0 ≡ measurementType → ⊥) → (getD bytes 0 0 ≡ lossType → ⊥) → (getD bytes 0 0 ≡ discardType → ⊥) → (getD bytes 0 0 ≡ effectiveType → ⊥) → (getD bytes 0 0 ≡ streamsType → ⊥) → Is 255
+  unfolding readBytes readBlock
+  of-others a b c d e = rw (le-leb 4 (length bytes) some, ne-eqb _ _ a, ne-eqb _ _ b, ne-eqb _ _ c, ne-eqb _ _ d, ne-eqb _ _ e)

@@ -13,10 +13,11 @@ use Rattle.refusal.specs.declared.Refusal.{Refusal}
 use Rattle.refusal.specs.declared.Written.{Written}
 use Rattle.refusal.specs.declared.Written.the-variants.{Size, Refused}
 use Rattle.sorting.specs.Order.{Sorted, Permuted}
-use Rattle.frame.specs.Frames.{whole}
 use Rattle.frame.specs.Packet.{bad, packetOf}
 use Rattle.packet.specs.Steps.{blocksOf}
-use Rattle.packet.proofs.Opening.{Open}
+use Rattle.frame.specs.declared.Extent.the-variants.{Whole}
+use Rattle.frame.proofs.Locating.{Here}
+use Rattle.packet.proofs.Chosen.{blocks-are, blocks-whole}
 use Rattle.survey.specs.Survey.{listing, listOf, listAnswer}
 use Rattle.survey.specs.Packed.{packing, spreadOf, Room, Marked, Settleable}
 use Rattle.survey.proofs.Members.{permuted-member, later}
@@ -29,9 +30,9 @@ Promised s out answer out′ = (answer ≡ listAnswer (packetOf s) out) × (out�
 pub list-refused : (s out : List ℕ) (r : Refusal) → packetOf s ≡ bad r → Promised s out (Refused r) out
 list-refused s out r p = (rw p, rw p)
 
-module _ (s out : List ℕ) (sender count first : ℕ) (o : Open s 0 sender count first) where
+module _ (s out : List ℕ) (sender count first : ℕ) (o : Here Whole s 0 sender count first) where
   same : o .blocks ≡ blocksOf s
-  same = sym (rw (o .frames))
+  same = sym (blocks-are s sender (o .blocks) (o .packet))
 
   pub list-short : length out < 2 * count → Promised s out (Refused bufferShort) out
   list-short h =
@@ -40,7 +41,7 @@ module _ (s out : List ℕ) (sender count first : ℕ) (o : Open s 0 sender coun
       (rw (o .packet, t), rw (o .packet, t))
 
   pub list-room : length s ≤ 262144 → 2 * count ≤ length out → Room s out count
-  list-room short h = record { whole-blocks = o .frames ∙ ap whole same; short = short; counted = o .counted ∙ ap length same; fits = h }
+  list-room short h = record { whole-blocks = blocks-whole s sender (o .blocks) (o .packet); short = short; counted = o .counted ∙ ap length same; fits = h }
 
   pub list-done : (out′ : List ℕ) → 2 * count ≤ length out → out′ ≡ listing (blocksOf s) (blocksOf s) ++ drop (2 * count) out → Promised s out (Size (2 * count)) out′
   list-done out′ h e =

@@ -1,17 +1,21 @@
 -- The walk that marks the blocks and gathers the measured sources, as plain lists and numbers: its invariant, start,
 -- turn and end. Assumes nothing.
 use Prim.Native.Nat.{ℕ, suc, _+_, _*_, _<_, _≤_}
-use mathlib.Core.Path.{_≡_, refl, sym, ap, _∙_}
+use mathlib.Core.Path.{_≡_, refl, sym, ap, ap₂, _∙_}
 use mathlib.Core.Bool.{Bool, true, false, _||_}
 use mathlib.Core.List.{List, [], _∷_, _++_, append-nil}
 use native.Mathlib.Omega.{arith}
 use native.Mathlib.Numerals.{add-one}
 use lib.ListN.{length, getD, take, drop, set, length-append, length-set}
 use lib.Seq.{take-set-le, drop-set-add, drop-cons, set-at, append-snoc}
-use Rattle.frame.specs.Frames.{Entry, whole, nextAt, entryAt, framesAt, firstBlock}
+use Rattle.frame.specs.Frames.{Entry, whole, nextAt, entryAt, blockAt, framesIn, firstBlock}
 use Rattle.frame.proofs.Stepping.{first-of, at-end}
-use Rattle.packet.specs.Blocks.{measures, measured, readIn}
-use Rattle.packet.specs.Steps.{Inside, blocksOf}
+use Rattle.frame.proofs.Blocks.{block-bytes}
+use Rattle.block.specs.Reading.{readBytes, measuresOf}
+use Rattle.block.specs.declared.BlockRead.{BlockRead}
+use Rattle.packet.specs.Blocks.{readAlone, names, measures, measured, judged, readIn}
+use Rattle.packet.specs.Steps.{blocksOf}
+use Rattle.packet.proofs.Measuring.{read-at}
 use Rattle.survey.specs.Survey.{verdictOf}
 use Rattle.survey.specs.Sources.{member, Grown}
 use Rattle.survey.specs.Packed.{verdicts, packing, Room, Marked}
@@ -43,7 +47,7 @@ pub record Mark (s old : List ℕ) (count : ℕ) (out : List ℕ) (at i k : ℕ)
   pub passed : List Entry
   pub left : List Entry
   pub blocks : blocksOf s ≡ passed ++ left
-  pub frames : framesAt s at ≡ whole left
+  pub frames : framesIn s at (length s) ≡ whole left
   pub index : i ≡ count + length passed
   pub few : k ≤ length passed
   pub same : (x : ℕ) → member x (take k out) ≡ measured x passed
@@ -71,22 +75,32 @@ module _ (s old : List ℕ) (count : ℕ) (room : Room s old count) where
     total = room .counted ∙ ap length (m .blocks) ∙ length-append (m .passed) (m .left)
 
     -- a turn has a block at its place, and room for its packed number and its source
-    pub mark-inside : at < length s → Inside s at
-    mark-inside h = record { starts = h; ends = first-of s at (m .left) h (m .frames) .fits }
+    pub mark-fits : at < length s → nextAt s at ≤ length s
+    mark-fits h = first-of s at (length s) (m .left) h (m .frames) .fits
+
+    pub mark-some : at < length s → (bytes : List ℕ) → bytes ≡ blockAt s at → 4 ≤ length bytes
+    mark-some h bytes b = let l = block-bytes s at (mark-fits h) .long in let e = ap length b in omega arith
+
+    pub mark-long : at < length s → (bytes : List ℕ) → bytes ≡ blockAt s at → at + length bytes ≡ nextAt s at
+    mark-long h bytes b = let l = block-bytes s at (mark-fits h) .long in let e = ap length b in omega arith
 
     pub mark-room : at < length s → (i < 2 * count) × (k < count)
     mark-room h =
-        let one = ap length (first-of s at (m .left) h (m .frames) .first) in
+        let one = ap length (first-of s at (length s) (m .left) h (m .frames) .first) in
         let all = total in
         let index = m .index in
         let few = m .few in
         (omega arith, omega arith)
 
-    pub mark-on : at < length s → (v : ℕ) → v ≡ verdictOf (readIn [] (entryAt s at)) → (next r : ℕ) (new : List ℕ) → next ≡ nextAt s at →
-        Grown (entryAt s at) (set out i (at * verdicts + v)) new k r → Mark s old count new next (i + 1) r
+    pub mark-on : (h : at < length s) (bytes : List ℕ) → bytes ≡ blockAt s at → (v : ℕ) → v ≡ verdictOf (judged [] (readBytes bytes)) → (r : ℕ) (new : List ℕ) →
+        Grown (measuresOf (readBytes bytes)) (set out i (at * verdicts + v)) new k r → Mark s old count new (at + length bytes) (i + 1) r
     unfolding entryAt
-    mark-on h v is next r new e grow =
-        let first = first-of s at (m .left) h (m .frames) in
+    mark-on h bytes b v j r new grow =
+        let alone : readBytes bytes ≡ readAlone (entryAt s at) = ap readBytes b ∙ read-at s at (mark-fits h) in
+        let is : v ≡ verdictOf (readIn [] (entryAt s at)) = j ∙ ap (λ (a : BlockRead). verdictOf (judged [] a)) alone in
+        let e = mark-long h bytes b in
+        let same-source : (x : ℕ) → names (measuresOf (readBytes bytes)) x ≡ measures x (entryAt s at) = λ x. ap (λ (a : BlockRead). names (measuresOf a) x) alone in
+        let first = first-of s at (length s) (m .left) h (m .frames) in
         let within = mark-room h in
         let fits = room .fits in
         let few = m .few in
@@ -101,7 +115,7 @@ module _ (s old : List ℕ) (count : ℕ) (room : Room s old count) where
           index = ap (λ (n : ℕ). n + 1) index ∙ sym (rw (length-append (m .passed) (entryAt s at ∷ [])) (omega arith));
           few = rw (length-append (m .passed) (entryAt s at ∷ [])) (omega arith);
           same = λ x.
-              grow .same x ∙ ap (λ (l : List ℕ). measures x (entryAt s at) || member x l) (take-set-le k out i (at * verdicts + v) (omega arith))
+              grow .same x ∙ ap₂ (λ (a : Bool) (l : List ℕ). a || member x l) (same-source x) (take-set-le k out i (at * verdicts + v) (omega arith))
               ∙ ap (λ (b : Bool). measures x (entryAt s at) || b) (m .same x) ∙ sym (measured-snoc x (m .passed) (entryAt s at));
           packed =
               later (k + 1) count new (set out i (at * verdicts + v)) (omega arith) (grow .rest)
@@ -117,7 +131,7 @@ module _ (s old : List ℕ) (count : ℕ) (room : Room s old count) where
 
     pub mark-end : length s ≤ at → Marked s old out count k
     mark-end h =
-        let none : whole (m .left) ≡ whole [] = sym (m .frames) ∙ at-end s at h in
+        let none : whole (m .left) ≡ whole [] = sym (m .frames) ∙ at-end s at (length s) h in
         let empty : m .left ≡ [] = cc in
         let all : blocksOf s ≡ m .passed = m .blocks ∙ ap (λ (es : List Entry). m .passed ++ es) empty ∙ append-nil (m .passed) in
         let counted : count ≡ length (m .passed) = room .counted ∙ ap length all in

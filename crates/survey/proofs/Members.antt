@@ -11,10 +11,7 @@ use lib.Dec.{eqb}
 use lib.ListN.{length, getD, take, drop, set, length-set}
 use lib.Seq.{take-suc-set, drop-set-lt, drop-drop}
 use Rattle.sorting.specs.Order.{one, times, Permuted}
-use Rattle.block.specs.Reading.{measuredBy}
 use Rattle.block.specs.declared.Measures.the-variants.{Source, Nothing}
-use Rattle.frame.specs.Frames.{Entry}
-use Rattle.packet.proofs.Measuring.{names-source, names-nothing}
 use Rattle.survey.specs.Sources.{member, Grown}
 
 member-append : (x : ℕ) (s t : List ℕ) → member x (s ++ t) ≡ (member x s || member x t)
@@ -56,14 +53,13 @@ pub permuted-member : (old new : List ℕ) → Permuted old new → (x : ℕ) �
 permuted-member old new p x = by-times x new ∙ ap some (p .same x) ∙ sym (by-times x old)
 
 -- a table that grows by the source of one block, where it measures one
-pub grown : (e : Entry) (old : List ℕ) (k x : ℕ) → k < length old → measuredBy (e .kind) (e .body) ≡ Source x → Grown e old (set old k x) k (k + 1)
+pub grown : (old : List ℕ) (k x : ℕ) → k < length old → Grown (Source x) old (set old k x) k (k + 1)
 unfolding member
-grown e old k x l m =
+grown old k x l =
     record {
       same = λ y.
           ap (λ (front : List ℕ). member y front) (ap (λ (n : ℕ). take n (set old k x)) (add-one k) ∙ take-suc-set old k x l)
-          ∙ member-append y (take k old) (x ∷ []) ∙ swap (member y (take k old)) (eqb x y)
-          ∙ ap (λ (b : Bool). b || member y (take k old)) (sym (names-source e x m y));
+          ∙ member-append y (take k old) (x ∷ []) ∙ swap (member y (take k old)) (eqb x y);
       few = omega arith;
       rest = drop-set-lt (k + 1) old k x (omega arith);
       long = length-set old k x;
@@ -75,9 +71,8 @@ grown e old k x l m =
     swap false true = refl
     swap false false = refl
 
-pub kept : (e : Entry) (old : List ℕ) (k : ℕ) → measuredBy (e .kind) (e .body) ≡ Nothing → Grown e old old k k
-kept e old k m =
-    record { same = λ y. ap (λ (b : Bool). b || member y (take k old)) (sym (names-nothing e m y)); few = omega arith; rest = refl; long = refl }
+pub kept : (old : List ℕ) (k : ℕ) → Grown Nothing old old k k
+kept old k = record { same = λ y. refl; few = omega arith; rest = refl; long = refl }
 
 -- lists that are the same from one place on are the same from any later place on
 pub later : (n m : ℕ) (l l′ : List ℕ) → n ≤ m → drop n l ≡ drop n l′ → drop m l ≡ drop m l′

@@ -12,11 +12,10 @@ use lib.Seq.{take-set-le, take-take, drop-set-add, getD-at, getD-drop, set-at, s
 use Rattle.refusal.proofs.Tests.{and-left, and-right}
 use Rattle.wire.specs.BigEndian.{u32At}
 use Rattle.block.specs.Types.{unmeasured}
-use Rattle.frame.specs.Frames.{Entry, whole, nextAt, entryAt, framesAt, firstBlock}
-use Rattle.frame.proofs.Stepping.{First, first-of}
+use Rattle.frame.specs.Frames.{Entry, whole, nextAt, entryAt, framesIn, firstBlock}
+use Rattle.frame.proofs.Stepping.{First, first-of, some-left}
 use Rattle.packet.specs.Blocks.{measured, readIn}
-use Rattle.packet.specs.Steps.{Inside, blocksOf}
-use Rattle.packet.proofs.Numbered.{some-left}
+use Rattle.packet.specs.Steps.{blocksOf}
 use Rattle.survey.specs.Survey.{verdictOf}
 use Rattle.survey.specs.Sources.{member, Table}
 use Rattle.survey.specs.Packed.{verdicts, packedOf, packing, Settleable}
@@ -27,7 +26,7 @@ use Rattle.survey.proofs.Marking.{packing-length, packing-snoc}
 abbrev pub waits : List ℕ → ℕ → Bool
 waits s packed = eqb (packed % verdicts) unmeasured && measured (u32At s (packed / verdicts + 4)) (blocksOf s)
 
-module _ (s : List ℕ) (at : ℕ) (i : Inside s at) (packed : ℕ) (is : packed ≡ packedOf [] (entryAt s at)) where
+module _ (s : List ℕ) (at : ℕ) (i : nextAt s at ≤ length s) (packed : ℕ) (is : packed ≡ packedOf [] (entryAt s at)) where
   apart : (packed / verdicts ≡ at) × (packed % verdicts ≡ verdictOf (readIn [] (entryAt s at)))
   unfolding entryAt
   apart = let small = verdict-small [] (entryAt s at) in (omega arith, omega arith)
@@ -60,7 +59,7 @@ pub record Settle (s old : List ℕ) (count : ℕ) (out : List ℕ) (i : ℕ) : 
   pub passed : List Entry
   pub left : List Entry
   pub blocks : blocksOf s ≡ passed ++ left
-  pub frames : framesAt s at ≡ whole left
+  pub frames : framesIn s at (length s) ≡ whole left
   pub index : i ≡ count + length passed
   pub front : take count out ≡ take count old
   pub packed : drop count out ≡ packing (blocksOf s) passed ++ (packing [] left ++ drop (2 * count) old)
@@ -99,13 +98,13 @@ module _ (s old : List ℕ) (count k : ℕ) (can : Settleable s old count k) whe
     starts h =
         let all = total in
         let index = m .index in
-        some-left s (m .at) (m .left) (m .frames) (omega arith)
+        some-left s (m .at) (length s) (m .left) (m .frames) (omega arith)
 
-    first : i < 2 * count → First s (m .at) (m .left)
-    first h = first-of s (m .at) (m .left) (starts h) (m .frames)
+    first : i < 2 * count → First s (m .at) (length s) (m .left)
+    first h = first-of s (m .at) (length s) (m .left) (starts h) (m .frames)
 
-    pub settle-inside : i < 2 * count → Inside s (m .at)
-    settle-inside h = record { starts = starts h; ends = first h .fits }
+    settle-fits : i < 2 * count → nextAt s (m .at) ≤ length s
+    settle-fits h = first h .fits
 
     -- the packed blocks, with the one that is looked at
     shown : (h : i < 2 * count) →
@@ -140,10 +139,10 @@ module _ (s old : List ℕ) (count k : ℕ) (can : Settleable s old count k) whe
 
     -- the two ways through a turn
     pub settle-back : (h : i < 2 * count) → waits s (getD out i 0) ≡ true → set out i (getD out i 0 - unmeasured) ≡ set out i (packedOf (blocksOf s) (entryAt s (m .at)))
-    settle-back h t = ap (set out i) (taken-back s (m .at) (settle-inside h) (getD out i 0) (settle-read h) t)
+    settle-back h t = ap (set out i) (taken-back s (m .at) (settle-fits h) (getD out i 0) (settle-read h) t)
 
     pub settle-left : (h : i < 2 * count) → waits s (getD out i 0) ≡ false → out ≡ set out i (packedOf (blocksOf s) (entryAt s (m .at)))
-    settle-left h t = sym (set-getD out i 0) ∙ ap (set out i) (left-so s (m .at) (settle-inside h) (getD out i 0) (settle-read h) t)
+    settle-left h t = sym (set-getD out i 0) ∙ ap (set out i) (left-so s (m .at) (settle-fits h) (getD out i 0) (settle-read h) t)
 
     -- D4 is there to be taken back
     pub settle-enough : i < 2 * count → waits s (getD out i 0) ≡ true → unmeasured ≤ getD out i 0

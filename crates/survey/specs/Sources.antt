@@ -7,17 +7,17 @@ use mathlib.Core.List.{List, [], _∷_}
 use lib.Dec.{eqb}
 use lib.ListN.{length, take, drop}
 use Rattle.sorting.specs.Order.{Sorted}
-use Rattle.frame.specs.Frames.{Entry}
-use Rattle.packet.specs.Blocks.{measures, measured}
+use Rattle.block.specs.declared.Measures.{Measures}
+use Rattle.packet.specs.Blocks.{names, measured}
 use Rattle.packet.specs.Steps.{blocksOf}
 
 unfoldable pub member : ℕ → List ℕ → Bool
 member x [] = false
 member x (y ∷ ys) = eqb y x || member x ys
 
--- the first r numbers of `new` are the first k of `old`, and the source of block e where it measures one
-pub record Grown (e : Entry) (old new : List ℕ) (k r : ℕ) : Type 0 where
-  pub same : (x : ℕ) → member x (take r new) ≡ (measures x e || member x (take k old))
+-- the first r numbers of `new` are the first k of `old`, and the source that a block measures, if any
+pub record Grown (m : Measures) (old new : List ℕ) (k r : ℕ) : Type 0 where
+  pub same : (x : ℕ) → member x (take r new) ≡ (names m x || member x (take k old))
   pub few : r ≤ k + 1
   pub rest : drop (k + 1) new ≡ drop (k + 1) old
   pub long : length new ≡ length old

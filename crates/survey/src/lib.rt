@@ -3,7 +3,8 @@
 // list is the only room: while it is filled, its first half holds the table, and its second half one number for each
 // block, place and verdict packed.
 use block::Measures;
-use packet::Opened;
+use frame::Extent;
+use frame::Located;
 use refusal::Written;
 ghost use mathlib.Core.Path.{_≡_};
 ghost use mathlib.Core.Bool.{cond, _&&_};
@@ -15,15 +16,14 @@ ghost use Rattle.refusal.specs.Answer.{after};
 ghost use Rattle.sorting.specs.Order.{Sorted};
 ghost use Rattle.wire.specs.BigEndian.{u32At};
 ghost use Rattle.block.specs.Types.{unmeasured};
-ghost use Rattle.block.specs.Reading.{readBlock};
-ghost use Rattle.frame.specs.Frames.{nextAt, entryAt};
+ghost use Rattle.block.specs.Reading.{readBytes, measuresOf};
 ghost use Rattle.frame.specs.Packet.{packetOf};
-ghost use Rattle.packet.specs.Blocks.{measured, readIn};
-ghost use Rattle.packet.specs.Steps.{Inside, blocksOf};
+ghost use Rattle.packet.specs.Blocks.{measured, judged};
+ghost use Rattle.packet.specs.Steps.{blocksOf};
 ghost use Rattle.survey.specs.Survey.{verdictOf, listOf, listAnswer};
 ghost use Rattle.survey.specs.Sources.{member, Grown, Table};
+ghost use Rattle.survey.specs.Alone.{sizeVerdict, summaryVerdict};
 ghost use Rattle.survey.specs.Packed.{verdicts, packing, spreadOf, Room, Marked, Settleable};
-ghost use Rattle.survey.specs.Alone.{sizeVerdict, isSummary};
 
 // The verdicts besides the reasons to drop a block.
 pub const TYPED: u8 = 0;
@@ -38,8 +38,8 @@ pub fn list(packet: &[u8], out: &mut [u32]) -> Written
     ensures answer { λ r. ⌜ r ≡ listAnswer (packetOf (now (packet .entry))) (now (out .entry)) ⌝ }
     ensures buffer { λ r. ⌜ now (out .exit) ≡ after (listAnswer (packetOf (now (packet .entry))) (now (out .entry))) (listOf (packetOf (now (packet .entry)))) (now (out .entry)) ⌝ }
 {
-    match packet::open(packet, 0) {
-        Opened::Blocks(_, count, _) => {
+    match frame::locate(packet, Extent::Whole, 0) {
+        Located::Good(_, count, _) => {
             if out.len() / 2 < count {
                 return Written::Refused(refusal::BUFFER_SHORT);
             }
@@ -49,7 +49,7 @@ pub fn list(packet: &[u8], out: &mut [u32]) -> Written
             spread(out, count);
             Written::Size(2 * count)
         }
-        Opened::Refused(r) => Written::Refused(r),
+        Located::Refused(r) => Written::Refused(r),
     }
 }
 
@@ -63,69 +63,63 @@ fn mark(s: &[u8], out: &mut [u32], count: usize) -> usize
     let mut i = count;
     let mut k = 0;
     while at < s.len() {
-        let next = frame::next_block(s, at);
-        out[i] = at as u32 * VERDICTS + verdict_unmeasured(s, at, next) as u32;
-        k = gather_at(s, at, next, out, k);
-        at = next;
+        let bytes = frame::block_at(s, at);
+        out[i] = at as u32 * VERDICTS + verdict_unmeasured(bytes) as u32;
+        k = gather(bytes, out, k);
+        at += bytes.len();
         i += 1;
     }
     k
 }
 
-// The verdict of the block from offset at to end, in a packet that measures nothing.
-fn verdict_unmeasured(s: &[u8], at: usize, end: usize) -> u8
-    requires { ⌜ Inside (now s) at × (end ≡ nextAt (now s) at) ⌝ }
-    ensures { λ r. ⌜ r ≡ verdictOf (readIn [] (entryAt (now (s .entry)) at)) ⌝ }
+// The verdict of a block of these bytes in a packet that measures nothing: what `block::read_bytes` comes to, without
+// its struct.
+fn verdict_unmeasured(bytes: &[u8]) -> u8
+    requires { ⌜ 4 ≤ length (now bytes) ⌝ }
+    ensures { λ r. ⌜ r ≡ verdictOf (judged [] (readBytes (now (bytes .entry)))) ⌝ }
 {
-    let start = at + 4;
-    let kind = s[at];
-    let alone = verdict_alone(kind, s[at + 1], &s[start..end]);
-    if alone != TYPED {
-        return alone;
-    }
-    if !is_summary(kind) {
-        return TYPED;
-    }
-    block::UNMEASURED
-}
-
-// The verdict of a block by itself.
-fn verdict_alone(kind: u8, specific: u8, body: &[u8]) -> u8
-    ensures { λ r. ⌜ r ≡ verdictOf (readBlock kind specific (now (body .entry))) ⌝ }
-{
+    let kind = bytes[0];
     match kind {
-        14 => size_verdict(body.len(), block::MEASUREMENT_BYTES),
-        17 => block::summary_reason(block::LOSS_BYTES, specific, body),
-        18 => block::summary_reason(block::DISCARD_BYTES, specific, body),
-        240 => size_verdict(body.len(), block::EFFECTIVE_BYTES),
-        241 => size_verdict(body.len(), block::STREAMS_BYTES),
+        14 => size_verdict(bytes.len(), 4 + block::MEASUREMENT_BYTES),
+        17 => summary_verdict(bytes, 4 + block::LOSS_BYTES, bytes[1] / 64),
+        18 => summary_verdict(bytes, 4 + block::DISCARD_BYTES, bytes[1] / 64),
+        240 => size_verdict(bytes.len(), 4 + block::EFFECTIVE_BYTES),
+        241 => size_verdict(bytes.len(), 4 + block::STREAMS_BYTES),
         _ => UNKNOWN,
     }
 }
 
-fn size_verdict(length: usize, wanted: usize) -> u8
-    ensures { λ r. ⌜ r ≡ sizeVerdict length wanted ⌝ }
+fn size_verdict(size: usize, wanted: usize) -> u8
+    ensures { λ r. ⌜ r ≡ sizeVerdict size wanted ⌝ }
 {
-    if length != wanted {
+    if size != wanted {
         return block::BAD_SIZE;
     }
     TYPED
 }
 
-// Whether a typed block of this type needs a measurement of its source.
-fn is_summary(kind: u8) -> bool
-    ensures { λ r. ⌜ r ≡ isSummary kind ⌝ }
+// The verdict of a 17 or 18, of which a good one waits for a measurement.
+fn summary_verdict(bytes: &[u8], wanted: usize, flag: u8) -> u8
+    ensures { λ r. ⌜ r ≡ summaryVerdict (now (bytes .entry)) wanted flag ⌝ }
 {
-    (kind == block::LOSS) | (kind == block::DISCARD)
+    if bytes.len() != wanted {
+        return block::BAD_SIZE;
+    }
+    if !block::flag_good(flag) {
+        return block::BAD_FLAG;
+    }
+    if !block::summary_good(flag, wire::u16_at(bytes, 8), wire::u16_at(bytes, 10)) {
+        return block::BAD_RATE;
+    }
+    block::UNMEASURED
 }
 
-// The source of the block from offset at to end, where it measures one, put behind the table's first k.
-fn gather_at(s: &[u8], at: usize, end: usize, table: &mut [u32], k: usize) -> usize
-    requires { ⌜ Inside (now s) at × (end ≡ nextAt (now s) at) × (k < length (now table)) ⌝ }
-    ensures { λ r. ⌜ Grown (entryAt (now (s .entry)) at) (now (table .entry)) (now (table .exit)) k r ⌝ }
+// The source that a block of these bytes measures, if any, put behind the table's first k.
+fn gather(bytes: &[u8], table: &mut [u32], k: usize) -> usize
+    requires { ⌜ k < length (now table) ⌝ }
+    ensures { λ r. ⌜ Grown (measuresOf (readBytes (now (bytes .entry)))) (now (table .entry)) (now (table .exit)) k r ⌝ }
 {
-    let start = at + 4;
-    match block::measured_by(s[at], &s[start..end]) {
+    match block::measured_by(bytes) {
         Measures::Source(source) => {
             table[k] = source;
             k + 1

@@ -7,7 +7,6 @@ use lib.Dec.{eqb, leb}
 use lib.ListN.{length, getD}
 use Rattle.refusal.specs.Table.{traceLength, traceByte}
 use Rattle.refusal.specs.Answer.{unless}
-use Rattle.refusal.specs.declared.Refusal.{Refusal}
 use Rattle.trace.specs.declared.Event.{Event}
 use Rattle.trace.specs.declared.Event.the-variants.{Lost, Discarded}
 use Rattle.refusal.specs.declared.Judged.{Judged}

@@ -1,12 +1,13 @@
--- Bytes placed in a buffer: where they fit, and one run of bytes behind another. Assumes nothing.
-use Prim.Native.Nat.{ℕ, suc, _+_, _<_, _≤_}
+-- Bytes placed in a buffer: where they fit, one run of bytes behind another, and each byte afterwards. Assumes nothing.
+use Prim.Native.Nat.{ℕ, suc, _+_, _-_, _<_, _≤_}
 use mathlib.Core.Path.{_≡_, sym, ap, ap₂, _∙_}
 use mathlib.Core.List.{List, [], _∷_, _++_, append-assoc, append-nil}
 use native.Mathlib.Omega.{arith}
 use native.Mathlib.Nat.{add-zero}
+use native.Mathlib.Decide.{decLt}
 use borrow.Author.Tests.{le-leb, lt-leb}
-use lib.ListN.{length, take, drop, set, length-append, length-drop, take-append-drop}
-use lib.Seq.{length-take-le, take-at, drop-append-add, drop-drop, sets-eq}
+use lib.ListN.{length, getD, take, drop, set, length-append, length-drop, take-append-drop, List·getD-append}
+use lib.Seq.{length-take-le, take-at, drop-append-add, drop-drop, sets-eq, getD-take, getD-drop, getD-append-add}
 use Rattle.wire.specs.BigEndian.{placed}
 
 module _ (s : List ℕ) (i : ℕ) (xs : List ℕ) where
@@ -56,6 +57,36 @@ placed-more s i xs ys h =
     join =
         let end : i + length (xs ++ ys) ≡ i + length xs + length ys = rw (length-append xs ys) (omega arith) in
         ap₂ (λ (a : List ℕ) (n : ℕ). a ++ drop n s) (sym (append-assoc (take i s) xs ys)) end
+
+-- a byte outside them is as it was, and one of them is as it was given
+pub placed-other : (s : List ℕ) (i : ℕ) (xs : List ℕ) (j : ℕ) → i + length xs ≤ length s → (i ≤ j → i + length xs ≤ j) → getD (placed s i xs) j 0 ≡ getD s j 0
+placed-other s i xs j h apart = ap (λ (l : List ℕ). getD l j 0) (placed-in s i xs h) ∙ go (decLt j i)
+  where
+    front : length (take i s) ≡ i
+    front = length-take-le i s (omega arith)
+
+    all : length (take i s ++ xs) ≡ i + length xs
+    all = length-append (take i s) xs ∙ ap (λ (n : ℕ). n + length xs) front
+
+    go : Dec (j < i) → getD (take i s ++ xs ++ drop (i + length xs) s) j 0 ≡ getD s j 0
+    go (yes l) =
+        List·getD-append (take i s ++ xs) (drop (i + length xs) s) 0 j (omega (arith, all))
+        ∙ List·getD-append (take i s) xs 0 j (omega (arith, front)) ∙ getD-take i s j 0 l
+    go (no l) =
+        let high = apart (omega arith) in
+        let split : j ≡ length (take i s ++ xs) + (j - (i + length xs)) = omega (arith, all) in
+        let back : i + length xs + (j - (i + length xs)) ≡ j = omega arith in
+        ap (λ (n : ℕ). getD (take i s ++ xs ++ drop (i + length xs) s) n 0) split
+        ∙ getD-append-add (take i s ++ xs) (drop (i + length xs) s) (j - (i + length xs)) 0
+        ∙ getD-drop (i + length xs) s (j - (i + length xs)) 0 ∙ ap (λ (n : ℕ). getD s n 0) back
+
+pub placed-here : (s : List ℕ) (i : ℕ) (xs : List ℕ) (j : ℕ) → i + length xs ≤ length s → j < length xs → getD (placed s i xs) (i + j) 0 ≡ getD xs j 0
+placed-here s i xs j h l =
+    let front : length (take i s) ≡ i = length-take-le i s (omega arith) in
+    let all = length-append (take i s) xs in
+    ap (λ (x : List ℕ). getD x (i + j) 0) (placed-in s i xs h)
+    ∙ List·getD-append (take i s ++ xs) (drop (i + length xs) s) 0 (i + j) (omega arith)
+    ∙ ap (λ (n : ℕ). getD (take i s ++ xs) (n + j) 0) (sym front) ∙ getD-append-add (take i s) xs j 0
 
 -- bytes stored one after the other
 pub stored-2 : (s : List ℕ) (i a b : ℕ) → i + 2 ≤ length s → set (set s i a) (i + 1) b ≡ placed s i (a ∷ b ∷ [])

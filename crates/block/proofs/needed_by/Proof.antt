@@ -16,12 +16,6 @@ use borrow.Author.Needs.{needs}
 use Rattle.block.proofs.needed_by.Statement.{statement}
 use Rattle.block.proofs.needed_by.Tie as tie
 
-enum-known-b : tie.Need-enum-known-b
-enum-known-b c = search needs
-
-enum-known-b-2 : tie.Need-enum-known-b-2
-enum-known-b-2 c = search needs
-
 -- the places 1 and 2, of a 17 and an 18, are none of the last arm's
 no-summary : (k : ℕ) → 1 ≤ k → k ≤ 2 → OneOf (0 ∷ 3 ∷ 4 ∷ []) k → ⊥
 no-summary k low high = ⊎-elim (λ e. omega arith) (⊎-elim (λ e. omega arith) (λ e. omega arith))
@@ -43,4 +37,11 @@ returns-3 : tie.Need-returns-3
 returns-3 c = others (c .before .args .b) (c .match .keys3)
 
 pub needed-by-spec : {M : Type 1} → statement M
-needed-by-spec = tie.close (tie.spec enum-known-b enum-known-b-2 returns returns-2 returns-3)
+needed-by-spec =
+    tie.close
+    (tie.spec
+    (λ c. search needs)
+    (λ c. search needs)
+    returns
+    returns-2
+    returns-3)

@@ -6,21 +6,6 @@ use borrow.Author.Needs.{needs}
 use Rattle.block.proofs.read.Statement.{statement}
 use Rattle.block.proofs.read.Tie as tie
 
-read-measurement-requires : tie.Need-read-measurement-requires
-read-measurement-requires c κs = search needs
-
-read-loss-requires : tie.Need-read-loss-requires
-read-loss-requires c κs = search needs
-
-read-discard-requires : tie.Need-read-discard-requires
-read-discard-requires c κs = search needs
-
-read-effective-requires : tie.Need-read-effective-requires
-read-effective-requires c κs = search needs
-
-read-streams-requires : tie.Need-read-streams-requires
-read-streams-requires c κs = search needs
-
 returns : tie.Need-returns
 unfolding readBlock
 returns c = rw (c .before .match .keys1) (c .read-measurement .ensures)
@@ -49,11 +34,11 @@ pub read-spec : {M : Type 1} → statement M
 read-spec =
     tie.close
     (tie.spec
-    read-measurement-requires
-    read-loss-requires
-    read-discard-requires
-    read-effective-requires
-    read-streams-requires
+    (λ c κs. search needs)
+    (λ c κs. search needs)
+    (λ c κs. search needs)
+    (λ c κs. search needs)
+    (λ c κs. search needs)
     returns
     returns-2
     returns-3

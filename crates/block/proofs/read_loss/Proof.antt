@@ -1,54 +1,39 @@
--- `block::read_loss` meets its contract: dropped for the reason that was found, and a body without one has the fields of
--- its layout. Assumes nothing.
-use mathlib.Core.Path.{refl}
+-- `block::read_loss` meets its contract: another size is D1, and in a body of its size every number read is the one
+-- that stands there. Assumes nothing.
+use Prim.Native.Nat.{_*_}
+use borrow.Author.Tests.{ne-eqb}
+use Rattle.wire.specs.BigEndian.{u16At, u32At}
+use Rattle.block.specs.Types.{lossWords}
+use Rattle.block.specs.Layouts.{lossIn}
 use Rattle.block.specs.Reading.{readLoss}
-use Rattle.block.proofs.Cases.{faulty}
-use Rattle.block.proofs.Readers.{loss-typed}
 use borrow.Author.Needs.{needs}
 use Rattle.block.proofs.read_loss.Statement.{statement}
 use Rattle.block.proofs.read_loss.Tie as tie
 
-summary-reason-requires : tie.Need-summary-reason-requires
-summary-reason-requires c κs = search needs
-
 returns : tie.Need-returns
 unfolding readLoss
-returns c = faulty _ _ _ (c .before .summary-reason .ensures) (c .if1 .taken)
+returns c = rw (ne-eqb _ (4 * lossWords) (c .if1 .taken))
 
-u32-at-requires : tie.Need-u32-at-requires
-u32-at-requires c κs = search needs
-
-u16-at-requires : tie.Need-u16-at-requires
-u16-at-requires c κs = search needs
-
-u16-at-requires-2 : tie.Need-u16-at-requires-2
-u16-at-requires-2 c κs = search needs
-
-u16-at-requires-3 : tie.Need-u16-at-requires-3
-u16-at-requires-3 c κs = search needs
-
-u16-at-requires-4 : tie.Need-u16-at-requires-4
-u16-at-requires-4 c κs = search needs
-
+-- the places after each call, from the last to the first
 returns-2 : tie.Need-returns-2
+unfolding readLoss lossIn u16At u32At
 returns-2 c =
-    let variance = c .u16-at4 .ensures in
-    let mean = c .before .u16-at3 .ensures in
-    let gap = c .before .before .u16-at2 .ensures in
-    let burst = c .before .before .before .u16-at .ensures in
-    let source = c .before .before .before .before .u32-at .ensures in
-    let good = c .before .before .before .before .before in
-    loss-typed _ _ _ _ (good .before .summary-reason .ensures) (good .if1 .left) refl source burst gap mean variance
+    let after5 = c .before in
+    let after4 = after5 .before in
+    let after3 = after4 .before in
+    let after2 = after3 .before in
+    let after1 = after2 .before in
+    simp (c .judge-summary .ensures, after5 .u16-at4 .ensures, after4 .u16-at3 .ensures, after3 .u16-at2 .ensures, after2 .u16-at .ensures, after1 .u32-at .ensures, after1 .before .if1 .left)
 
 pub read-loss-spec : {M : Type 1} → statement M
 read-loss-spec =
     tie.close
     (tie.spec
-    summary-reason-requires
     returns
-    u32-at-requires
-    u16-at-requires
-    u16-at-requires-2
-    u16-at-requires-3
-    u16-at-requires-4
+    (λ c κs. search needs)
+    (λ c κs. search needs)
+    (λ c κs. search needs)
+    (λ c κs. search needs)
+    (λ c κs. search needs)
+    (λ c κs. search needs)
     returns-2)

@@ -1,36 +1,22 @@
--- `block::read_measurement` meets its contract: another size is D1, and a body of its size has the fields of its layout.
--- Assumes nothing.
-use Rattle.block.proofs.Readers.{measurement-size, measurement-typed}
+-- `block::read_measurement` meets its contract: another size is D1, and in a body of its size every number read is the one
+-- that stands there. Assumes nothing.
+use Prim.Native.Nat.{_*_}
+use borrow.Author.Tests.{ne-eqb}
+use Rattle.wire.specs.BigEndian.{u16At, u32At}
+use Rattle.block.specs.Types.{measurementWords}
+use Rattle.block.specs.Layouts.{measurementIn}
+use Rattle.block.specs.Reading.{readMeasurement}
 use borrow.Author.Needs.{needs}
 use Rattle.block.proofs.read_measurement.Statement.{statement}
 use Rattle.block.proofs.read_measurement.Tie as tie
 
 returns : tie.Need-returns
-returns c = measurement-size _ (c .if1 .taken)
-
-u32-at-requires : tie.Need-u32-at-requires
-u32-at-requires c κs = search needs
-
-u16-at-requires : tie.Need-u16-at-requires
-u16-at-requires c κs = search needs
-
-u32-at-requires-2 : tie.Need-u32-at-requires-2
-u32-at-requires-2 c κs = search needs
-
-u32-at-requires-3 : tie.Need-u32-at-requires-3
-u32-at-requires-3 c κs = search needs
-
-u32-at-requires-4 : tie.Need-u32-at-requires-4
-u32-at-requires-4 c κs = search needs
-
-u32-at-requires-5 : tie.Need-u32-at-requires-5
-u32-at-requires-5 c κs = search needs
-
-u32-at-requires-6 : tie.Need-u32-at-requires-6
-u32-at-requires-6 c κs = search needs
+unfolding readMeasurement
+returns c = rw (ne-eqb _ (4 * measurementWords) (c .if1 .taken))
 
 -- the places after each call, from the last to the first
 returns-2 : tie.Need-returns-2
+unfolding readMeasurement measurementIn u16At u32At
 returns-2 c =
     let after6 = c .before in
     let after5 = after6 .before in
@@ -38,18 +24,18 @@ returns-2 c =
     let after3 = after4 .before in
     let after2 = after3 .before in
     let after1 = after2 .before in
-    measurement-typed _ _ (after1 .before .if1 .left) (after1 .u32-at .ensures) (after2 .u16-at .ensures) (after3 .u32-at2 .ensures) (after4 .u32-at3 .ensures) (after5 .u32-at4 .ensures) (after6 .u32-at5 .ensures) (c .u32-at6 .ensures)
+    simp (c .u32-at6 .ensures, after6 .u32-at5 .ensures, after5 .u32-at4 .ensures, after4 .u32-at3 .ensures, after3 .u32-at2 .ensures, after2 .u16-at .ensures, after1 .u32-at .ensures, after1 .before .if1 .left)
 
 pub read-measurement-spec : {M : Type 1} → statement M
 read-measurement-spec =
     tie.close
     (tie.spec
     returns
-    u32-at-requires
-    u16-at-requires
-    u32-at-requires-2
-    u32-at-requires-3
-    u32-at-requires-4
-    u32-at-requires-5
-    u32-at-requires-6
+    (λ c κs. search needs)
+    (λ c κs. search needs)
+    (λ c κs. search needs)
+    (λ c κs. search needs)
+    (λ c κs. search needs)
+    (λ c κs. search needs)
+    (λ c κs. search needs)
     returns-2)

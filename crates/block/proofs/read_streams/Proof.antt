@@ -1,51 +1,22 @@
--- `block::read_streams` meets its contract: another size is D1, and a body of its size has the fields of its layout.
--- Assumes nothing.
-use Rattle.block.proofs.Readers.{streams-size, streams-typed}
+-- `block::read_streams` meets its contract: another size is D1, and in a body of its size every number read is the one
+-- that stands there. Assumes nothing.
+use Prim.Native.Nat.{_*_}
+use borrow.Author.Tests.{ne-eqb}
+use Rattle.wire.specs.BigEndian.{u16At, u32At}
+use Rattle.block.specs.Types.{streamsWords}
+use Rattle.block.specs.Layouts.{streamsIn}
+use Rattle.block.specs.Reading.{readStreams}
 use borrow.Author.Needs.{needs}
 use Rattle.block.proofs.read_streams.Statement.{statement}
 use Rattle.block.proofs.read_streams.Tie as tie
 
 returns : tie.Need-returns
-returns c = streams-size _ (c .if1 .taken)
-
-u32-at-requires : tie.Need-u32-at-requires
-u32-at-requires c κs = search needs
-
-u16-at-requires : tie.Need-u16-at-requires
-u16-at-requires c κs = search needs
-
-u16-at-requires-2 : tie.Need-u16-at-requires-2
-u16-at-requires-2 c κs = search needs
-
-u32-at-requires-2 : tie.Need-u32-at-requires-2
-u32-at-requires-2 c κs = search needs
-
-u32-at-requires-3 : tie.Need-u32-at-requires-3
-u32-at-requires-3 c κs = search needs
-
-u32-at-requires-4 : tie.Need-u32-at-requires-4
-u32-at-requires-4 c κs = search needs
-
-u32-at-requires-5 : tie.Need-u32-at-requires-5
-u32-at-requires-5 c κs = search needs
-
-u32-at-requires-6 : tie.Need-u32-at-requires-6
-u32-at-requires-6 c κs = search needs
-
-u32-at-requires-7 : tie.Need-u32-at-requires-7
-u32-at-requires-7 c κs = search needs
-
-u32-at-requires-8 : tie.Need-u32-at-requires-8
-u32-at-requires-8 c κs = search needs
-
-u32-at-requires-9 : tie.Need-u32-at-requires-9
-u32-at-requires-9 c κs = search needs
-
-u32-at-requires-10 : tie.Need-u32-at-requires-10
-u32-at-requires-10 c κs = search needs
+unfolding readStreams
+returns c = rw (ne-eqb _ (4 * streamsWords) (c .if1 .taken))
 
 -- the places after each call, from the last to the first
 returns-2 : tie.Need-returns-2
+unfolding readStreams streamsIn u16At u32At
 returns-2 c =
     let after11 = c .before in
     let after10 = after11 .before in
@@ -58,23 +29,23 @@ returns-2 c =
     let after3 = after4 .before in
     let after2 = after3 .before in
     let after1 = after2 .before in
-    streams-typed _ _ (after1 .before .if1 .left) (after1 .u32-at .ensures) (after2 .u16-at .ensures) (after3 .u16-at2 .ensures) (after4 .u32-at2 .ensures) (after5 .u32-at3 .ensures) (after6 .u32-at4 .ensures) (after7 .u32-at5 .ensures) (after8 .u32-at6 .ensures) (after9 .u32-at7 .ensures) (after10 .u32-at8 .ensures) (after11 .u32-at9 .ensures) (c .u32-at10 .ensures)
+    simp (c .u32-at10 .ensures, after11 .u32-at9 .ensures, after10 .u32-at8 .ensures, after9 .u32-at7 .ensures, after8 .u32-at6 .ensures, after7 .u32-at5 .ensures, after6 .u32-at4 .ensures, after5 .u32-at3 .ensures, after4 .u32-at2 .ensures, after3 .u16-at2 .ensures, after2 .u16-at .ensures, after1 .u32-at .ensures, after1 .before .if1 .left)
 
 pub read-streams-spec : {M : Type 1} → statement M
 read-streams-spec =
     tie.close
     (tie.spec
     returns
-    u32-at-requires
-    u16-at-requires
-    u16-at-requires-2
-    u32-at-requires-2
-    u32-at-requires-3
-    u32-at-requires-4
-    u32-at-requires-5
-    u32-at-requires-6
-    u32-at-requires-7
-    u32-at-requires-8
-    u32-at-requires-9
-    u32-at-requires-10
+    (λ c κs. search needs)
+    (λ c κs. search needs)
+    (λ c κs. search needs)
+    (λ c κs. search needs)
+    (λ c κs. search needs)
+    (λ c κs. search needs)
+    (λ c κs. search needs)
+    (λ c κs. search needs)
+    (λ c κs. search needs)
+    (λ c κs. search needs)
+    (λ c κs. search needs)
+    (λ c κs. search needs)
     returns-2)

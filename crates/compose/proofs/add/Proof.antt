@@ -1,137 +1,90 @@
--- `compose::add` meets its contract: one of the cases of Adding.antt at each return. Assumes nothing.
-use mathlib.Core.Path.{_≡_, sym, ap, _∙_}
-use mathlib.Core.Bool.{true}
+-- `compose::add` meets its contract: judged, then written behind the packet, then its length field. Assumes nothing.
+use Prim.Native.Nat.{ℕ}
+use mathlib.Core.Path.{_≡_, sym, ap, ap₂, _∙_}
 use native.Mathlib.Omega.{arith}
-use borrow.Author.Tests.{not-true, not-false}
 use lib.ListN.{length}
+use Rattle.refusal.specs.declared.Judged.{Judged}
 use Rattle.encode.specs.declared.BlockWords.{BlockWords}
-use Rattle.encode.specs.Words.{wordsOf, writable}
+use Rattle.encode.specs.Words.{wordsOf}
 use Rattle.encode.proofs.Storing.{few}
-use Rattle.compose.proofs.Adding.{no-front, Good, good-front, bad-value, full, no-room, wrote}
+use Rattle.compose.specs.Writing.{appendAnswer, addAnswer}
+use Rattle.compose.proofs.Adding.{Fit, fit, not-added, added}
 use borrow.Author.Needs.{needs}
 use Rattle.compose.proofs.add.Statement.{statement}
 use Rattle.compose.proofs.add.Tie as tie
 
-judge-front-requires : tie.Need-judge-front-requires
-judge-front-requires c κs = search needs
+words-requires : tie.Need-words-requires
+words-requires c κs = search needs
 
-enum-known-field : tie.Need-enum-known-field
-enum-known-field c = search needs
+judge-block-requires : tie.Need-judge-block-requires
+judge-block-requires c κs = search needs
 
-cast-length : tie.Need-cast-length
-cast-length c = search needs
+judge-append-requires : tie.Need-judge-append-requires
+judge-append-requires c κs = search needs
 
-writable-requires : tie.Need-writable-requires
-writable-requires c κs = search needs
+enum-known-size : tie.Need-enum-known-size
+enum-known-size c = search needs
+
+-- the judgement is that of the block, and where it is a size, the packet has room for it
+counted : (c : tie.After-words) → c .words .result .count ≡ length (wordsOf (c .before .before .args .b))
+counted c = ap (λ (w : BlockWords). w .count) (c .words .ensures)
+
+answer : (c : tie.After-judge-append) → addAnswer (c .before .before .before .before .before .args .out .now) (c .before .before .before .before .before .args .b) ≡ c .judge-append .result
+answer c =
+    sym (c .judge-append .ensures ∙ ap₂ (λ (own : Judged) (n : ℕ). appendAnswer (c .before .before .before .before .before .args .out .now) own n) (c .before .judge-block .ensures) (counted (c .before .before .before)))
+
+fits : (c : tie.After-known-told) → Fit (c .before .before .before .before .before .before .before .before .args .out .now) (c .before .before .before .before .judge-block .result) (c .before .before .before .before .before .before .words .result .count) (c .before .size .given .0 .0)
+fits c = fit _ _ _ _ (sym (c .before .before .before .judge-append .ensures) ∙ c .before .size .given .1)
+
+mul-write : tie.Need-mul-write
+mul-write c = omega (arith, few (c .before .before .before .before .before .before .before .before .before .args .b) _ (c .before .before .before .before .before .before .before .words .ensures))
+
+sub-write : tie.Need-sub-write
+sub-write c = omega (arith, fits (c .before) .is)
+
+write-requires : tie.Need-write-requires
+write-requires c κs = search needs
+
+sub-put-u16 : tie.Need-sub-put-u16
+sub-put-u16 c = omega (arith, fits (c .before .before .before .before .before) .is)
+
+cast-put-u16 : tie.Need-cast-put-u16
+cast-put-u16 c = omega (arith, fits (c .before .before .before .before .before) .is, fits (c .before .before .before .before .before) .few)
+
+put-u16-requires : tie.Need-put-u16-requires
+put-u16-requires c κs = search needs
+
+enum-known-r : tie.Need-enum-known-r
+enum-known-r c = search needs
 
 same-length : tie.Need-same-length
 same-length c = search needs
 
--- past the match a good packet stands at the front
-found : (c : tie.After-field) → Good (c .before .before .before .before .before .args .out .now) (c .field .given .0 .0)
-found c = good-front _ _ (sym (c .field .given .1) ∙ c .before .before .judge-front .ensures)
-
--- past the first test the block may be written
-ok : (c : tie.Else1) → writable (c .before .before .before .before .before .before .before .before .args .b) ≡ true
-ok c = sym (c .before .writable .ensures) ∙ not-false (c .before .writable .result) (c .if1 .left)
-
-counted : (c : tie.After-words) → c .words .result .count ≡ length (wordsOf (c .before .before .before .before .before .before .before .before .before .args .b))
-counted c = ap (λ (w : BlockWords). w .count) (c .words .ensures)
-
 returns : tie.Need-returns
-returns c =
-    bad-value _ (c .before .before .before .before .before .before .before .before .args .b) _ (found (c .before .before .before))
-    (sym (c .before .writable .ensures) ∙ not-true (c .before .writable .result) (c .if1 .taken))
-
-words-requires : tie.Need-words-requires
-words-requires c κs = search needs
-
-add-longer : tie.Need-add-longer
-add-longer c = omega (arith, few (c .before .before .before .before .before .before .before .before .before .before .args .b) _ (c .before .words .ensures))
+returns c = added _ (c .before .before .before .before .before .before .before .before .before .before .before .before .before .before .before .before .args .b) _ _ _ _ _ (counted (c .before .before .before .before .before .before .before .before .before .before .before .before .before .before)) (fits (c .before .before .before .before .before .before .before .before)) (answer (c .before .before .before .before .before .before .before .before .before .before .before) ∙ c .before .before .before .before .before .before .before .before .before .size .given .1) (c .before .before .before .before .before .before .write .ensures) (c .before .before .put-u16 .ensures)
 
 same-length-2 : tie.Need-same-length-2
 same-length-2 c = search needs
 
 returns-2 : tie.Need-returns-2
-returns-2 c = full _ (c .before .before .before .before .before .before .before .before .before .before .before .args .b) _ (found (c .before .before .before .before .before .before)) (ok (c .before .before .before)) _ (counted (c .before .before)) (c .if2 .taken)
-
-add-if3 : tie.Need-add-if3
-add-if3 c = search needs
-
-mul-if3 : tie.Need-mul-if3
-mul-if3 c = search needs
-
-same-length-3 : tie.Need-same-length-3
-same-length-3 c = search needs
-
-returns-3 : tie.Need-returns-3
-returns-3 c = no-room _ (c .before .before .before .before .before .before .before .before .before .before .before .before .args .b) _ (found (c .before .before .before .before .before .before .before)) (ok (c .before .before .before .before)) _ (counted (c .before .before .before)) (c .before .if2 .left) (c .if3 .taken)
-
-add-write : tie.Need-add-write
-add-write c = search needs
-
-mul-write : tie.Need-mul-write
-mul-write c = search needs
-
-write-requires : tie.Need-write-requires
-write-requires c κs = search needs
-
-cast-put-u16 : tie.Need-cast-put-u16
-cast-put-u16 c = search needs
-
-put-u16-requires : tie.Need-put-u16-requires
-put-u16-requires c κs = search needs
-
-add-t18 : tie.Need-add-t18
-add-t18 c = search needs
-
-mul-t17 : tie.Need-mul-t17
-mul-t17 c = search needs
-
-enum-known-r : tie.Need-enum-known-r
-enum-known-r c = search needs
-
-same-length-4 : tie.Need-same-length-4
-same-length-4 c = search needs
-
-returns-4 : tie.Need-returns-4
-returns-4 c =
-    wrote _ (c .before .before .before .before .before .before .before .before .before .before .before .before .before .before .before .before .before .before .before .before .args .b) _ (found (c .before .before .before .before .before .before .before .before .before .before .before .before .before .before .before)) (ok (c .before .before .before .before .before .before .before .before .before .before .before .before)) _ (counted (c .before .before .before .before .before .before .before .before .before .before .before)) (c .before .before .before .before .before .before .before .before .before .if2 .left) (c .before .before .before .before .before .before .before .before .if3 .left) _ _
-    (c .before .before .before .before .before .before .write .ensures) (c .before .before .put-u16 .ensures)
-
-same-length-5 : tie.Need-same-length-5
-same-length-5 c = search needs
-
-returns-5 : tie.Need-returns-5
-returns-5 c = no-front _ (c .before .before .before .before .before .before .args .b) _ (sym (c .before .r .given .1) ∙ c .before .before .before .judge-front .ensures)
+returns-2 c = not-added _ (c .before .before .before .before .before .before .before .before .args .b) _ (answer (c .before .before .before) ∙ c .before .r .given .1)
 
 pub add-spec : {M : Type 1} → statement M
 add-spec =
     tie.close
     (tie.spec
-    judge-front-requires
-    enum-known-field
-    cast-length
-    writable-requires
-    same-length
-    returns
     words-requires
-    add-longer
-    same-length-2
-    returns-2
-    add-if3
-    mul-if3
-    same-length-3
-    returns-3
-    add-write
+    judge-block-requires
+    judge-append-requires
+    enum-known-size
     mul-write
+    sub-write
     write-requires
+    sub-put-u16
     cast-put-u16
     put-u16-requires
-    add-t18
-    mul-t17
     enum-known-r
-    same-length-4
-    returns-4
-    same-length-5
-    returns-5)
+    same-length
+    returns
+    same-length-2
+    returns-2)

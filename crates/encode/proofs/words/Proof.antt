@@ -7,36 +7,6 @@ use borrow.Author.Needs.{needs}
 use Rattle.encode.proofs.words.Statement.{statement}
 use Rattle.encode.proofs.words.Tie as tie
 
-enum-known-b : tie.Need-enum-known-b
-enum-known-b c = search needs
-
-measurement-words-requires : tie.Need-measurement-words-requires
-measurement-words-requires c κs = search needs
-
-enum-known-b-2 : tie.Need-enum-known-b-2
-enum-known-b-2 c = search needs
-
-loss-words-requires : tie.Need-loss-words-requires
-loss-words-requires c κs = search needs
-
-enum-known-b-3 : tie.Need-enum-known-b-3
-enum-known-b-3 c = search needs
-
-discard-words-requires : tie.Need-discard-words-requires
-discard-words-requires c κs = search needs
-
-enum-known-b-4 : tie.Need-enum-known-b-4
-enum-known-b-4 c = search needs
-
-effective-words-requires : tie.Need-effective-words-requires
-effective-words-requires c κs = search needs
-
-enum-known-b-5 : tie.Need-enum-known-b-5
-enum-known-b-5 c = search needs
-
-stream-words-requires : tie.Need-stream-words-requires
-stream-words-requires c κs = search needs
-
 made : Block → BlockWords
 made b = filled (wordsOf b)
 
@@ -64,16 +34,16 @@ pub words-spec : {M : Type 1} → statement M
 words-spec =
     tie.close
     (tie.spec
-    enum-known-b
-    measurement-words-requires
-    enum-known-b-2
-    loss-words-requires
-    enum-known-b-3
-    discard-words-requires
-    enum-known-b-4
-    effective-words-requires
-    enum-known-b-5
-    stream-words-requires
+    (λ c. search needs)
+    (λ c κs. search needs)
+    (λ c. search needs)
+    (λ c κs. search needs)
+    (λ c. search needs)
+    (λ c κs. search needs)
+    (λ c. search needs)
+    (λ c κs. search needs)
+    (λ c. search needs)
+    (λ c κs. search needs)
     returns
     returns-2
     returns-3

@@ -12,9 +12,6 @@ Inv-loop out₀ at count all i₀ out i = Stored out₀ at count all out i
 abbrev μ-loop : tie.MeasureT-loop
 μ-loop out₀ at count all i₀ out i = count - i
 
-words-requires : tie.Need-words-requires Inv-loop μ-loop
-words-requires c κs = search needs
-
 mul-if1 : tie.Need-mul-if1 Inv-loop μ-loop
 mul-if1 c = omega (arith, few (c .before .before .before .args .b) _ (c .before .words .ensures))
 
@@ -23,9 +20,6 @@ returns c = no-room _ _ (c .before .before .words .ensures) _ _ (omega arith)
 
 mul-if2 : tie.Need-mul-if2 Inv-loop μ-loop
 mul-if2 c = omega (arith, few (c .before .before .before .before .args .b) _ (c .before .before .words .ensures))
-
-sub-if2 : tie.Need-sub-if2 Inv-loop μ-loop
-sub-if2 c = search needs
 
 returns-2 : tie.Need-returns-2 Inv-loop μ-loop
 returns-2 c = no-room _ _ (c .before .before .before .words .ensures) _ _ (omega arith)
@@ -45,14 +39,8 @@ mul-put-u32-2 c = omega (arith, c .before .before .loop .inv .most)
 array-read-put-u32 : tie.Need-array-read-put-u32 Inv-loop μ-loop
 array-read-put-u32 c = omega (arith, c .before .before .loop .inv .most)
 
-put-u32-requires : tie.Need-put-u32-requires Inv-loop μ-loop
-put-u32-requires c κs = search needs
-
 add-i : tie.Need-add-i Inv-loop μ-loop
 add-i c = omega (arith, c .before .before .before .before .before .loop .inv .most)
-
-loop-less : tie.Need-loop-less Inv-loop μ-loop
-loop-less c = omega arith
 
 loop-again : tie.Need-loop-again Inv-loop μ-loop
 loop-again c = stored-more _ _ _ _ _ _ (c .before .before .before .before .before .loop .inv) _ (omega arith) (c .before .before .put-u32 .ensures)
@@ -69,20 +57,20 @@ write-spec =
     (tie.spec
     Inv-loop
     μ-loop
-    words-requires
+    (λ c κs. search needs)
     mul-if1
     returns
     mul-if2
-    sub-if2
+    (λ c. search needs)
     returns-2
     loop-holds
     mul-put-u32
     add-put-u32
     mul-put-u32-2
     array-read-put-u32
-    put-u32-requires
+    (λ c κs. search needs)
     add-i
-    loop-less
+    (λ c. omega arith)
     loop-again
     same-length
     returns-3)

@@ -1,7 +1,9 @@
 -- `fields::put_counts` meets its contract. Assumes nothing.
+use mathlib.Core.Path.{sym}
+use mathlib.Core.List.{append-nil}
 use borrow.Author.Needs.{needs}
-use Rattle.text.proofs.Joined.{joined, keeps-length}
-use Rattle.fields.specs.Fields.{countsText}
+use Rattle.text.proofs.Joined.{joined, same-text, keeps-length}
+use Rattle.fields.specs.Fields.{piecesText}
 use Rattle.fields.proofs.put_counts.Statement.{statement}
 use Rattle.fields.proofs.put_counts.Tie as tie
 
@@ -54,23 +56,16 @@ put-u32-requires-8 : tie.Need-put-u32-requires-8
 put-u32-requires-8 c κs = search needs
 
 returns : tie.Need-returns
-unfolding countsText
+unfolding piecesText
 returns c =
-    joined _ _ _ _ _ _ _ _
-    (joined _ _ _ _ _ _ _ _
-    (joined _ _ _ _ _ _ _ _
-    (joined _ _ _ _ _ _ _ _
-    (joined _ _ _ _ _ _ _ _
-    (joined _ _ _ _ _ _ _ _
-    (joined _ _ _ _ _ _ _ _
-    (c .before .before .before .before .before .before .before .before .before .before .before .before .before .before .before .before .before .before .before .before .before .before .before .before .before .before .before .before .before .before .before .before .before .before .before .before .before .put-u32 .ensures)
-    (c .before .before .before .before .before .before .before .before .before .before .before .before .before .before .before .before .before .before .before .before .before .before .before .before .before .before .before .before .before .before .before .before .put-u322 .ensures))
-    (c .before .before .before .before .before .before .before .before .before .before .before .before .before .before .before .before .before .before .before .before .before .before .before .before .before .before .before .put-u323 .ensures))
-    (c .before .before .before .before .before .before .before .before .before .before .before .before .before .before .before .before .before .before .before .before .before .before .put-u324 .ensures))
-    (c .before .before .before .before .before .before .before .before .before .before .before .before .before .before .before .before .before .put-u325 .ensures))
-    (c .before .before .before .before .before .before .before .before .before .before .before .before .put-u326 .ensures))
-    (c .before .before .before .before .before .before .before .put-u327 .ensures))
-    (c .before .before .put-u328 .ensures)
+    joined _ _ _ _ _ _ _ _ (c .before .before .before .before .before .before .before .before .before .before .before .before .before .before .before .before .before .before .before .before .before .before .before .before .before .before .before .before .before .before .before .before .before .before .before .before .before .put-u32 .ensures)
+    (joined _ _ _ _ _ _ _ _ (c .before .before .before .before .before .before .before .before .before .before .before .before .before .before .before .before .before .before .before .before .before .before .before .before .before .before .before .before .before .before .before .before .put-u322 .ensures)
+    (joined _ _ _ _ _ _ _ _ (c .before .before .before .before .before .before .before .before .before .before .before .before .before .before .before .before .before .before .before .before .before .before .before .before .before .before .before .put-u323 .ensures)
+    (joined _ _ _ _ _ _ _ _ (c .before .before .before .before .before .before .before .before .before .before .before .before .before .before .before .before .before .before .before .before .before .before .put-u324 .ensures)
+    (joined _ _ _ _ _ _ _ _ (c .before .before .before .before .before .before .before .before .before .before .before .before .before .before .before .before .before .put-u325 .ensures)
+    (joined _ _ _ _ _ _ _ _ (c .before .before .before .before .before .before .before .before .before .before .before .before .put-u326 .ensures)
+    (joined _ _ _ _ _ _ _ _ (c .before .before .before .before .before .before .before .put-u327 .ensures)
+    (same-text _ _ _ _ _ _ (sym (append-nil _)) (c .before .before .put-u328 .ensures))))))))
 
 same-length : tie.Need-same-length
 same-length c = keeps-length _ _ _ _ _ (returns c)

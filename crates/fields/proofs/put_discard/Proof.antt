@@ -1,7 +1,9 @@
 -- `fields::put_discard` meets its contract. Assumes nothing.
+use mathlib.Core.Path.{sym}
+use mathlib.Core.List.{append-nil}
 use borrow.Author.Needs.{needs}
-use Rattle.text.proofs.Joined.{joined, keeps-length}
-use Rattle.fields.specs.Fields.{discardText}
+use Rattle.text.proofs.Joined.{joined, same-text, keeps-length}
+use Rattle.fields.specs.Fields.{piecesText, typedText}
 use Rattle.fields.proofs.put_discard.Statement.{statement}
 use Rattle.fields.proofs.put_discard.Tie as tie
 
@@ -33,15 +35,12 @@ put-figure-requires-2 : tie.Need-put-figure-requires-2
 put-figure-requires-2 c κs = search needs
 
 returns : tie.Need-returns
-unfolding discardText
+unfolding typedText piecesText
 returns c =
-    joined _ _ _ _ _ _ _ _
-    (joined _ _ _ _ _ _ _ _
-    (joined _ _ _ _ _ _ _ _
-    (c .before .before .before .before .before .before .before .before .before .before .before .before .before .before .before .before .before .before .put-source .ensures)
-    (c .before .before .before .before .before .before .before .before .before .before .before .before .put-u16 .ensures))
-    (c .before .before .before .before .before .before .before .put-figure .ensures))
-    (c .before .before .put-figure2 .ensures)
+    joined _ _ _ _ _ _ _ _ (c .before .before .before .before .before .before .before .before .before .before .before .before .before .before .before .before .before .before .put-source .ensures)
+    (joined _ _ _ _ _ _ _ _ (c .before .before .before .before .before .before .before .before .before .before .before .before .put-u16 .ensures)
+    (joined _ _ _ _ _ _ _ _ (c .before .before .before .before .before .before .before .put-figure .ensures)
+    (same-text _ _ _ _ _ _ (sym (append-nil _)) (c .before .before .put-figure2 .ensures))))
 
 same-length : tie.Need-same-length
 same-length c = keeps-length _ _ _ _ _ (returns c)

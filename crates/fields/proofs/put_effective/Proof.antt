@@ -1,7 +1,9 @@
 -- `fields::put_effective` meets its contract. Assumes nothing.
+use mathlib.Core.Path.{sym}
+use mathlib.Core.List.{append-nil}
 use borrow.Author.Needs.{needs}
-use Rattle.text.proofs.Joined.{joined, keeps-length}
-use Rattle.fields.specs.Fields.{effectiveText}
+use Rattle.text.proofs.Joined.{joined, same-text, keeps-length}
+use Rattle.fields.specs.Fields.{piecesText, typedText}
 use Rattle.fields.proofs.put_effective.Statement.{statement}
 use Rattle.fields.proofs.put_effective.Tie as tie
 
@@ -18,11 +20,10 @@ put-u16-requires : tie.Need-put-u16-requires
 put-u16-requires c κs = search needs
 
 returns : tie.Need-returns
-unfolding effectiveText
+unfolding typedText piecesText
 returns c =
-    joined _ _ _ _ _ _ _ _
-    (c .before .before .before .before .before .before .before .put-source .ensures)
-    (c .before .before .put-u16 .ensures)
+    joined _ _ _ _ _ _ _ _ (c .before .before .before .before .before .before .before .put-source .ensures)
+    (same-text _ _ _ _ _ _ (sym (append-nil _)) (c .before .before .put-u16 .ensures))
 
 same-length : tie.Need-same-length
 same-length c = keeps-length _ _ _ _ _ (returns c)

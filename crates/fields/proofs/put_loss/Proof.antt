@@ -1,7 +1,9 @@
 -- `fields::put_loss` meets its contract. Assumes nothing.
+use mathlib.Core.Path.{sym}
+use mathlib.Core.List.{append-nil}
 use borrow.Author.Needs.{needs}
-use Rattle.text.proofs.Joined.{joined, keeps-length}
-use Rattle.fields.specs.Fields.{lossText}
+use Rattle.text.proofs.Joined.{joined, same-text, keeps-length}
+use Rattle.fields.specs.Fields.{piecesText, typedText}
 use Rattle.fields.proofs.put_loss.Statement.{statement}
 use Rattle.fields.proofs.put_loss.Tie as tie
 
@@ -45,19 +47,14 @@ put-figure-requires-4 : tie.Need-put-figure-requires-4
 put-figure-requires-4 c κs = search needs
 
 returns : tie.Need-returns
-unfolding lossText
+unfolding typedText piecesText
 returns c =
-    joined _ _ _ _ _ _ _ _
-    (joined _ _ _ _ _ _ _ _
-    (joined _ _ _ _ _ _ _ _
-    (joined _ _ _ _ _ _ _ _
-    (joined _ _ _ _ _ _ _ _
-    (c .before .before .before .before .before .before .before .before .before .before .before .before .before .before .before .before .before .before .before .before .before .before .before .before .before .before .before .before .put-source .ensures)
-    (c .before .before .before .before .before .before .before .before .before .before .before .before .before .before .before .before .before .before .before .before .before .before .put-u16 .ensures))
-    (c .before .before .before .before .before .before .before .before .before .before .before .before .before .before .before .before .before .put-figure .ensures))
-    (c .before .before .before .before .before .before .before .before .before .before .before .before .put-figure2 .ensures))
-    (c .before .before .before .before .before .before .before .put-figure3 .ensures))
-    (c .before .before .put-figure4 .ensures)
+    joined _ _ _ _ _ _ _ _ (c .before .before .before .before .before .before .before .before .before .before .before .before .before .before .before .before .before .before .before .before .before .before .before .before .before .before .before .before .put-source .ensures)
+    (joined _ _ _ _ _ _ _ _ (c .before .before .before .before .before .before .before .before .before .before .before .before .before .before .before .before .before .before .before .before .before .before .put-u16 .ensures)
+    (joined _ _ _ _ _ _ _ _ (c .before .before .before .before .before .before .before .before .before .before .before .before .before .before .before .before .before .put-figure .ensures)
+    (joined _ _ _ _ _ _ _ _ (c .before .before .before .before .before .before .before .before .before .before .before .before .put-figure2 .ensures)
+    (joined _ _ _ _ _ _ _ _ (c .before .before .before .before .before .before .before .put-figure3 .ensures)
+    (same-text _ _ _ _ _ _ (sym (append-nil _)) (c .before .before .put-figure4 .ensures))))))
 
 same-length : tie.Need-same-length
 same-length c = keeps-length _ _ _ _ _ (returns c)

@@ -1,7 +1,9 @@
 -- `fields::put_measurement` meets its contract. Assumes nothing.
+use mathlib.Core.Path.{sym}
+use mathlib.Core.List.{append-nil}
 use borrow.Author.Needs.{needs}
-use Rattle.text.proofs.Joined.{joined, keeps-length}
-use Rattle.fields.specs.Fields.{measurementText}
+use Rattle.text.proofs.Joined.{joined, same-text, keeps-length}
+use Rattle.fields.specs.Fields.{piecesText, typedText}
 use Rattle.fields.proofs.put_measurement.Statement.{statement}
 use Rattle.fields.proofs.put_measurement.Tie as tie
 
@@ -48,21 +50,15 @@ put-u32-requires-5 : tie.Need-put-u32-requires-5
 put-u32-requires-5 c κs = search needs
 
 returns : tie.Need-returns
-unfolding measurementText
+unfolding typedText piecesText
 returns c =
-    joined _ _ _ _ _ _ _ _
-    (joined _ _ _ _ _ _ _ _
-    (joined _ _ _ _ _ _ _ _
-    (joined _ _ _ _ _ _ _ _
-    (joined _ _ _ _ _ _ _ _
-    (joined _ _ _ _ _ _ _ _
-    (c .before .before .before .before .before .before .before .before .before .before .before .before .before .before .before .before .before .before .before .before .before .before .before .before .before .before .before .before .before .before .before .before .put-source .ensures)
-    (c .before .before .before .before .before .before .before .before .before .before .before .before .before .before .before .before .before .before .before .before .before .before .before .before .before .before .before .put-u16 .ensures))
-    (c .before .before .before .before .before .before .before .before .before .before .before .before .before .before .before .before .before .before .before .before .before .before .put-u32 .ensures))
-    (c .before .before .before .before .before .before .before .before .before .before .before .before .before .before .before .before .before .put-u322 .ensures))
-    (c .before .before .before .before .before .before .before .before .before .before .before .before .put-u323 .ensures))
-    (c .before .before .before .before .before .before .before .put-u324 .ensures))
-    (c .before .before .put-u325 .ensures)
+    joined _ _ _ _ _ _ _ _ (c .before .before .before .before .before .before .before .before .before .before .before .before .before .before .before .before .before .before .before .before .before .before .before .before .before .before .before .before .before .before .before .before .put-source .ensures)
+    (joined _ _ _ _ _ _ _ _ (c .before .before .before .before .before .before .before .before .before .before .before .before .before .before .before .before .before .before .before .before .before .before .before .before .before .before .before .put-u16 .ensures)
+    (joined _ _ _ _ _ _ _ _ (c .before .before .before .before .before .before .before .before .before .before .before .before .before .before .before .before .before .before .before .before .before .before .put-u32 .ensures)
+    (joined _ _ _ _ _ _ _ _ (c .before .before .before .before .before .before .before .before .before .before .before .before .before .before .before .before .before .put-u322 .ensures)
+    (joined _ _ _ _ _ _ _ _ (c .before .before .before .before .before .before .before .before .before .before .before .before .put-u323 .ensures)
+    (joined _ _ _ _ _ _ _ _ (c .before .before .before .before .before .before .before .put-u324 .ensures)
+    (same-text _ _ _ _ _ _ (sym (append-nil _)) (c .before .before .put-u325 .ensures)))))))
 
 same-length : tie.Need-same-length
 same-length c = keeps-length _ _ _ _ _ (returns c)

@@ -4,7 +4,7 @@ use borrow.Author.Needs.{needs}
 use Rattle.text.proofs.Joined.{joined, same-text, keeps-length}
 use Rattle.labels.specs.Words as words
 use Rattle.labels.specs.Labels.{number}
-use Rattle.fields.specs.Fields.{streamsText}
+use Rattle.fields.specs.Fields.{piecesText, typedText}
 use Rattle.fields.proofs.put_streams.Statement.{statement}
 use Rattle.fields.proofs.put_streams.Tie as tie
 
@@ -51,22 +51,15 @@ put-counts-requires : tie.Need-put-counts-requires
 put-counts-requires c κs = search needs
 
 returns : tie.Need-returns
-unfolding streamsText
+unfolding typedText piecesText
 returns c =
-    joined _ _ _ _ _ _ _ _
-    (joined _ _ _ _ _ _ _ _
-    (joined _ _ _ _ _ _ _ _
-    (joined _ _ _ _ _ _ _ _
-    (joined _ _ _ _ _ _ _ _
-    (joined _ _ _ _ _ _ _ _
-    (c .before .before .before .before .before .before .before .before .before .before .before .before .before .before .before .before .before .before .before .before .before .before .before .before .before .before .before .before .before .before .before .before .put-source .ensures)
-    (c .before .before .before .before .before .before .before .before .before .before .before .before .before .before .before .before .before .before .before .before .before .before .before .before .before .before .before .put-u16 .ensures))
-    (c .before .before .before .before .before .before .before .before .before .before .before .before .before .before .before .before .before .before .before .before .before .before .put-u162 .ensures))
-    (same-text _ _ _ _ _ _ (ap (number words.packets) (c .before .before .before .before .before .before .before .before .before .before .before .before .before .before .before .before .before .packets-covered .ensures))
-    (c .before .before .before .before .before .before .before .before .before .before .before .before .before .before .before .before .put-u163 .ensures)))
-    (c .before .before .before .before .before .before .before .before .before .before .before .put-u32 .ensures))
-    (c .before .before .before .before .before .before .put .ensures))
-    (c .before .before .put-counts .ensures)
+    joined _ _ _ _ _ _ _ _ (c .before .before .before .before .before .before .before .before .before .before .before .before .before .before .before .before .before .before .before .before .before .before .before .before .before .before .before .before .before .before .before .before .put-source .ensures)
+    (joined _ _ _ _ _ _ _ _ (c .before .before .before .before .before .before .before .before .before .before .before .before .before .before .before .before .before .before .before .before .before .before .before .before .before .before .before .put-u16 .ensures)
+    (joined _ _ _ _ _ _ _ _ (c .before .before .before .before .before .before .before .before .before .before .before .before .before .before .before .before .before .before .before .before .before .before .put-u162 .ensures)
+    (joined _ _ _ _ _ _ _ _ (same-text _ _ _ _ _ _ (ap (number words.packets) (c .before .before .before .before .before .before .before .before .before .before .before .before .before .before .before .before .before .packets-covered .ensures)) (c .before .before .before .before .before .before .before .before .before .before .before .before .before .before .before .before .put-u163 .ensures))
+    (joined _ _ _ _ _ _ _ _ (c .before .before .before .before .before .before .before .before .before .before .before .put-u32 .ensures)
+    (joined _ _ _ _ _ _ _ _ (c .before .before .before .before .before .before .put .ensures)
+    (c .before .before .put-counts .ensures))))))
 
 same-length : tie.Need-same-length
 same-length c = keeps-length _ _ _ _ _ (returns c)

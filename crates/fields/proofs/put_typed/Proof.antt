@@ -1,8 +1,6 @@
 -- `fields::put_typed` meets its contract. Assumes nothing.
-use mathlib.Core.Path.{sym, ap}
 use borrow.Author.Needs.{needs}
-use Rattle.text.proofs.Joined.{same-text, keeps-length}
-use Rattle.fields.specs.Fields.{typedText}
+use Rattle.text.proofs.Joined.{keeps-length}
 use Rattle.fields.proofs.put_typed.Statement.{statement}
 use Rattle.fields.proofs.put_typed.Tie as tie
 
@@ -37,41 +35,31 @@ put-streams-requires : tie.Need-put-streams-requires
 put-streams-requires c κs = search needs
 
 returns : tie.Need-returns
-returns c =
-    same-text _ _ _ _ _ _ (ap typedText (sym (c .before .before .before .before .before .block .given .1)))
-    (c .before .before .put-measurement .ensures)
+returns c = rw (c .before .before .before .before .before .block .given .1) (c .before .before .put-measurement .ensures)
 
 same-length : tie.Need-same-length
 same-length c = keeps-length _ _ _ _ _ (returns c)
 
 returns-2 : tie.Need-returns-2
-returns-2 c =
-    same-text _ _ _ _ _ _ (ap typedText (sym (c .before .before .before .before .before .block2 .given .1)))
-    (c .before .before .put-loss .ensures)
+returns-2 c = rw (c .before .before .before .before .before .block2 .given .1) (c .before .before .put-loss .ensures)
 
 same-length-2 : tie.Need-same-length-2
 same-length-2 c = keeps-length _ _ _ _ _ (returns-2 c)
 
 returns-3 : tie.Need-returns-3
-returns-3 c =
-    same-text _ _ _ _ _ _ (ap typedText (sym (c .before .before .before .before .before .block3 .given .1)))
-    (c .before .before .put-discard .ensures)
+returns-3 c = rw (c .before .before .before .before .before .block3 .given .1) (c .before .before .put-discard .ensures)
 
 same-length-3 : tie.Need-same-length-3
 same-length-3 c = keeps-length _ _ _ _ _ (returns-3 c)
 
 returns-4 : tie.Need-returns-4
-returns-4 c =
-    same-text _ _ _ _ _ _ (ap typedText (sym (c .before .before .before .before .before .block4 .given .1)))
-    (c .before .before .put-effective .ensures)
+returns-4 c = rw (c .before .before .before .before .before .block4 .given .1) (c .before .before .put-effective .ensures)
 
 same-length-4 : tie.Need-same-length-4
 same-length-4 c = keeps-length _ _ _ _ _ (returns-4 c)
 
 returns-5 : tie.Need-returns-5
-returns-5 c =
-    same-text _ _ _ _ _ _ (ap typedText (sym (c .before .before .before .before .before .block5 .given .1)))
-    (c .before .before .put-streams .ensures)
+returns-5 c = rw (c .before .before .before .before .before .block5 .given .1) (c .before .before .put-streams .ensures)
 
 same-length-5 : tie.Need-same-length-5
 same-length-5 c = keeps-length _ _ _ _ _ (returns-5 c)

@@ -1,12 +1,9 @@
 -- `packet::has_measurement` meets its contract. The loop's invariant is `Search`. Assumes nothing.
 use Prim.Native.Nat.{_-_}
-use mathlib.Core.Path.{_≡_, sym, _∙_}
 use native.Mathlib.Omega.{arith}
-use borrow.Author.Needs.{needs}
 use lib.ListN.{length}
-use Rattle.frame.specs.Frames.{nextAt}
-use Rattle.frame.proofs.Stepping.{next-inside}
-use Rattle.packet.proofs.Measuring.{Search, search-start, search-inside, search-found, search-on, search-end}
+use Rattle.packet.proofs.Measuring.{Search, search-start, search-fits, search-long, search-found, search-on, search-end}
+use borrow.Author.Needs.{needs}
 use Rattle.packet.proofs.has_measurement.Statement.{statement}
 use Rattle.packet.proofs.has_measurement.Tie as tie
 
@@ -16,30 +13,29 @@ Inv-loop s source at₀ at = Search s source at
 abbrev μ-loop : tie.MeasureT-loop
 μ-loop s source at₀ at = length s - at
 
--- in a turn the next block stands where this one ends
-next : (c : tie.After-next-block Inv-loop μ-loop) → c .next-block .result ≡ nextAt (c .before .before .before .before .before .before .args .s .now) (c .before .before .before .before .loop .at)
-next c = c .next-block .ensures ∙ next-inside _ (c .before .before .before .before .loop .at) (omega arith)
-
 loop-holds : tie.Need-loop-holds Inv-loop μ-loop
 loop-holds c = search-start _ _ (c .before .pre)
 
-measures-at-requires : tie.Need-measures-at-requires Inv-loop μ-loop
-measures-at-requires c κs = search-inside _ _ _ (c .before .loop .inv) (omega arith)
+block-at-requires : tie.Need-block-at-requires Inv-loop μ-loop
+block-at-requires c κs = search needs
+
+measures-requires : tie.Need-measures-requires Inv-loop μ-loop
+measures-requires c κs = search needs
 
 returns : tie.Need-returns Inv-loop μ-loop
-returns c = search-found _ _ (c .before .before .before .loop .at) (c .before .before .before .loop .inv) (omega arith) (sym (c .before .measures-at .ensures) ∙ c .if1 .taken)
+returns c = search-found _ _ _ (c .before .before .before .before .loop .inv) (omega arith) _ _ (c .before .before .block-at .ensures .0) (c .before .measures .ensures) (c .if1 .taken)
 
-next-block-requires : tie.Need-next-block-requires Inv-loop μ-loop
-next-block-requires c κs = search needs
+add-at : tie.Need-add-at Inv-loop μ-loop
+add-at c = omega (arith, search-fits _ _ _ (c .before .before .before .before .loop .inv) (omega arith), search-long _ _ _ (c .before .before .before .before .loop .inv) (omega arith) _ (c .before .before .block-at .ensures .0))
 
 loop-less : tie.Need-loop-less Inv-loop μ-loop
-loop-less c = omega (arith, next c)
+loop-less c = omega (arith, search-long _ _ _ (c .before .before .before .before .loop .inv) (omega arith) _ (c .before .before .block-at .ensures .0))
 
 loop-again : tie.Need-loop-again Inv-loop μ-loop
-loop-again c = search-on _ _ (c .before .before .before .before .loop .at) _ (c .before .before .before .before .loop .inv) (omega arith) (sym (c .before .before .measures-at .ensures) ∙ c .before .if1 .left) (next c)
+loop-again c = search-on _ _ _ (c .before .before .before .before .loop .inv) (omega arith) _ _ (c .before .before .block-at .ensures .0) (c .before .measures .ensures) (c .if1 .left)
 
 returns-2 : tie.Need-returns-2 Inv-loop μ-loop
-returns-2 c = search-end _ _ (c .before .loop .at) (c .before .loop .inv) (omega arith)
+returns-2 c = search-end _ _ _ (c .before .loop .inv) (omega arith)
 
 pub has-measurement-spec : {M : Type 1} → statement M
 has-measurement-spec =
@@ -48,9 +44,10 @@ has-measurement-spec =
     Inv-loop
     μ-loop
     loop-holds
-    measures-at-requires
+    block-at-requires
+    measures-requires
     returns
-    next-block-requires
+    add-at
     loop-less
     loop-again
     returns-2)

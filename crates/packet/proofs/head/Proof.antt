@@ -1,12 +1,12 @@
--- `packet::head` meets its contract: what an opened packet has. Assumes nothing.
+-- `packet::head` meets its contract: what a packet has in which a block was located. Assumes nothing.
 use mathlib.Core.Path.{sym, _∙_}
-use Rattle.packet.proofs.Opening.{opened, opened-bad}
+use Rattle.frame.proofs.Locating.{located, located-bad}
 use borrow.Author.Needs.{needs}
 use Rattle.packet.proofs.head.Statement.{statement}
 use Rattle.packet.proofs.head.Tie as tie
 
-open-requires : tie.Need-open-requires
-open-requires c κs = search needs
+locate-requires : tie.Need-locate-requires
+locate-requires c κs = search needs
 
 enum-known-sender : tie.Need-enum-known-sender
 enum-known-sender c = search needs
@@ -16,11 +16,11 @@ enum-known-r c = search needs
 
 returns : tie.Need-returns
 returns c =
-    let o = opened _ 0 _ _ _ (sym (c .before .before .before .open .ensures) ∙ c .before .sender .given .1) in
+    let o = located _ _ 0 _ _ _ (sym (c .before .before .before .locate .ensures) ∙ c .before .sender .given .1) in
     rw (o .packet, ← o .counted)
 
 returns-2 : tie.Need-returns-2
-returns-2 c = rw (opened-bad _ 0 _ (sym (c .before .before .before .open .ensures) ∙ c .before .r .given .1))
+returns-2 c = rw (located-bad _ _ 0 _ (sym (c .before .before .before .locate .ensures) ∙ c .before .r .given .1))
 
 pub head-spec : {M : Type 1} → statement M
-head-spec = tie.close (tie.spec open-requires enum-known-sender enum-known-r returns returns-2)
+head-spec = tie.close (tie.spec locate-requires enum-known-sender enum-known-r returns returns-2)

@@ -5,29 +5,30 @@ use mathlib.Core.List.{List, _++_}
 use Prim.Native.Nat.{ℕ}
 use native.Mathlib.Omega.{arith}
 use lib.Seq.{length-take-le}
-use Rattle.frame.proofs.FirstBytes.{sent-short}
+use Rattle.frame.specs.declared.Extent.the-variants.{Whole}
+use Rattle.frame.proofs.Numbering.{packet-short}
+use Rattle.frame.proofs.Locating.{Here, located, located-bad}
 use Rattle.packet.specs.Steps.{blocksOf}
-use Rattle.packet.proofs.Opening.{Open, opened, opened-bad}
 use Rattle.survey.specs.Packed.{packing, Room}
 use Rattle.survey.proofs.Listing.{list-refused, list-short, list-room, list-done, marked-fits, past-sorted, sorted-table, spread-all}
 use borrow.Author.Needs.{needs}
 use Rattle.survey.proofs.list.Statement.{statement}
 use Rattle.survey.proofs.list.Tie as tie
 
-open-requires : tie.Need-open-requires
-open-requires c κs = search needs
+locate-requires : tie.Need-locate-requires
+locate-requires c κs = search needs
 
 enum-known-count : tie.Need-enum-known-count
 enum-known-count c = search needs
 
 -- what the packet has, once it was opened
-ready : (c : tie.After-known-told) → Open (c .before .before .before .before .before .before .args .packet .now) 0 (c .before .count .given .0 .0) (c .before .count .given .0 .1 .0) (c .before .count .given .0 .1 .1 .0)
-ready c = opened _ 0 _ _ _ (sym (c .before .before .before .open .ensures) ∙ c .before .count .given .1)
+ready : (c : tie.After-known-told) → Here Whole (c .before .before .before .before .before .before .args .packet .now) 0 (c .before .count .given .0 .0) (c .before .count .given .0 .1 .0) (c .before .count .given .0 .1 .1 .0)
+ready c = located _ _ 0 _ _ _ (sym (c .before .before .before .locate .ensures) ∙ c .before .count .given .1)
 
 room : (c : tie.Else1) → Room (c .before .before .before .before .before .before .before .args .packet .now) (c .before .before .before .before .before .before .before .args .out .now) (c .before .before .count .given .0 .1 .0)
 room c =
     list-room _ _ _ _ _ (ready (c .before))
-    (sent-short _ _ (ready (c .before) .header) (omega (arith, c .before .before .before .before .before .before .shared-slice-known .given 2)) (omega (arith, c .before .before .before .before .before .before .shared-slice-known .given 3)))
+    (packet-short _ _ _ (ready (c .before) .packet) (omega (arith, c .before .before .before .before .before .before .shared-slice-known .given 2)) (omega (arith, c .before .before .before .before .before .before .shared-slice-known .given 3)))
     (omega (arith, c .if1 .left))
 
 returns : tie.Need-returns
@@ -51,8 +52,8 @@ settle-requires c κs = sorted-table _ _ _ _ _ (room (c .before .before .before 
 spread-requires : tie.Need-spread-requires
 spread-requires c κs = search needs
 
-mul-t8 : tie.Need-mul-t8
-mul-t8 c = search needs
+mul-t9 : tie.Need-mul-t9
+mul-t9 c = search needs
 
 enum-known-r : tie.Need-enum-known-r
 enum-known-r c = search needs
@@ -68,13 +69,13 @@ returns-2 c =
     (past-sorted _ _ _ _ _ (room (c .before .before .before .before .before .before .before .before .before .before .before .before .before .before .before .before)) (c .before .before .before .before .before .before .before .before .before .before .before .before .before .before .mark .kept .1 .0) (c .before .before .before .before .before .before .before .before .before .before .before .before .before .before .mark .ensures) _ (c .before .before .before .before .before .before .before .before .before .before .sort .ensures .0) (c .before .before .before .before .before .before .before .before .before .before .sort .ensures .1))))
 
 returns-3 : tie.Need-returns-3
-returns-3 c = list-refused _ _ _ (opened-bad _ 0 _ (sym (c .before .before .before .open .ensures) ∙ c .before .r .given .1))
+returns-3 c = list-refused _ _ _ (located-bad _ _ 0 _ (sym (c .before .before .before .locate .ensures) ∙ c .before .r .given .1))
 
 pub list-spec : {M : Type 1} → statement M
 list-spec =
     tie.close
     (tie.spec
-    open-requires
+    locate-requires
     enum-known-count
     returns
     mark-requires
@@ -83,7 +84,7 @@ list-spec =
     sort-requires
     settle-requires
     spread-requires
-    mul-t8
+    mul-t9
     enum-known-r
     same-length
     returns-2

@@ -1,5 +1,6 @@
--- `survey::size_verdict` meets its contract. Assumes nothing.
+-- `survey::size_verdict` meets its contract: each return is a line of the definition. Assumes nothing.
 use borrow.Author.Tests.{eq-eqb, ne-eqb}
+use borrow.Author.Needs.{needs}
 use Rattle.survey.proofs.size_verdict.Statement.{statement}
 use Rattle.survey.proofs.size_verdict.Tie as tie
 
