@@ -19,13 +19,13 @@ module _ (s : List ℕ) (at : ℕ) where
   one-block h = let t = le-leb (nextAt s at) (length s) h in (rw t, rw t)
 
 -- what the bytes of a whole block are
-pub record Bytes (s : List ℕ) (at : ℕ) (bytes : List ℕ) : Type 0 where
+pub record BlockBytes (s : List ℕ) (at : ℕ) (bytes : List ℕ) : Type 0 where
   pub long : length bytes ≡ 4 + bodyLength s at
   pub kind : getD bytes 0 0 ≡ entryAt s at .kind
   pub specific : getD bytes 1 0 ≡ entryAt s at .specific
   pub body : drop 4 bytes ≡ entryAt s at .body
 
-pub block-bytes : (s : List ℕ) (at : ℕ) → nextAt s at ≤ length s → Bytes s at (blockAt s at)
+pub block-bytes : (s : List ℕ) (at : ℕ) → nextAt s at ≤ length s → BlockBytes s at (blockAt s at)
 unfolding entryAt
 block-bytes s at h =
     rw (one-block s at h .0) (record {

@@ -11,8 +11,8 @@ use Rattle.frame.specs.declared.Extent.{Extent}
 use Rattle.frame.specs.declared.Header.{Header}
 use Rattle.frame.specs.declared.Header.the-variants.{Sent, Refused}
 use Rattle.frame.specs.Frames.{Entry, Frames, whole, past, before, nextAt, entryAt, firstBlock, framesFrom, framesIn}
-use Rattle.frame.specs.Packet.{good, bad, filled, framed, headerOf, packetIn}
-use Rattle.frame.specs.Laws.{Fill, Blocks-fill, Made, Packet-exactly, RunsPast, Past-exactly}
+use Rattle.frame.specs.Packet.{good, bad, ofFrames, framed, headerOf, packetIn}
+use Rattle.frame.specs.Laws.{Fill, Blocks-fill, IsPacket, Packet-exactly, RunsPast, Past-exactly}
 use Rattle.frame.proofs.FirstBytes.{head-bounds, head-numbers}
 use Rattle.frame.proofs.Stepping.{first-of, at-next, at-past, at-end, frames-end, frames-past, frames-next}
 
@@ -57,18 +57,18 @@ pub blocks-fill : Blocks-fill
 blocks-fill s at to es h = (fills s es at to h, full s es at to)
 
 -- a packet's blocks
-made : (extent : Extent) (s : List ℕ) (sender : ℕ) (es : List Entry) → packetIn extent s ≡ good sender es → Made extent s sender es
+made : (extent : Extent) (s : List ℕ) (sender : ℕ) (es : List Entry) → packetIn extent s ≡ good sender es → IsPacket extent s sender es
 unfolding packetIn
 made extent s sender es p = go (headerOf extent s) refl p
   where
-    within : (from size : ℕ) (frames : Frames) → headerOf extent s ≡ Sent from size → framesIn s firstBlock size ≡ frames → filled from frames ≡ good sender es → Made extent s sender es
+    within : (from size : ℕ) (frames : Frames) → headerOf extent s ≡ Sent from size → framesIn s firstBlock size ≡ frames → ofFrames from frames ≡ good sender es → IsPacket extent s sender es
     within from size (whole fs) h f e =
         let same : from ≡ sender = cc in
         let blocks : fs ≡ es = cc in
         record { size = size; header = rw (← same) h; fill = fills s es firstBlock size (head-bounds extent s from size h .0) (f ∙ ap whole blocks) }
     within from size (past offset) h f e = let z : _≡_ {A = ℕ} 0 1 = cc in absurd (omega arith)
 
-    go : (header : Header) → headerOf extent s ≡ header → framed header s ≡ good sender es → Made extent s sender es
+    go : (header : Header) → headerOf extent s ≡ header → framed header s ≡ good sender es → IsPacket extent s sender es
     go (Sent from size) h e = within from size (framesIn s firstBlock size) h refl e
     go (Refused r) h e = let z : _≡_ {A = ℕ} 0 1 = cc in absurd (omega arith)
 
@@ -118,7 +118,7 @@ past-means : (extent : Extent) (s : List ℕ) (offset : ℕ) → packetIn extent
 unfolding packetIn
 past-means extent s offset p = go (headerOf extent s) refl p
   where
-    within : (sender size : ℕ) (frames : Frames) → headerOf extent s ≡ Sent sender size → framesIn s firstBlock size ≡ frames → filled sender frames ≡ bad (blockPastEnd offset) → RunsPast extent s offset
+    within : (sender size : ℕ) (frames : Frames) → headerOf extent s ≡ Sent sender size → framesIn s firstBlock size ≡ frames → ofFrames sender frames ≡ bad (blockPastEnd offset) → RunsPast extent s offset
     within sender size (whole es) h f e = let z : _≡_ {A = ℕ} 0 1 = cc in absurd (omega arith)
     within sender size (past o) h f e =
         let refusals : blockPastEnd o ≡ blockPastEnd offset = cc in
@@ -139,7 +139,7 @@ pub packet-numbers : (extent : Extent) (s : List ℕ) (r : Refusal) → packetIn
 unfolding packetIn
 packet-numbers extent s r p = go (headerOf extent s) refl p
   where
-    within : (sender : ℕ) (frames : Frames) → filled sender frames ≡ bad r → r .number ≤ 6
+    within : (sender : ℕ) (frames : Frames) → ofFrames sender frames ≡ bad r → r .number ≤ 6
     within sender (whole es) e = let z : _≡_ {A = ℕ} 0 1 = cc in absurd (omega arith)
     within sender (past offset) e =
         let same : blockPastEnd offset ≡ r = cc in

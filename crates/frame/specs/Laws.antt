@@ -20,7 +20,7 @@ Blocks-fill =
     (framesIn s at to ≡ whole es → Fill s at to es) × (Fill s at to es → framesIn s at to ≡ whole es)
 
 -- a packet with these blocks: a good header, and blocks that fill the size that it names
-pub record Made (extent : Extent) (s : List ℕ) (sender : ℕ) (es : List Entry) : Type 0 where
+pub record IsPacket (extent : Extent) (s : List ℕ) (sender : ℕ) (es : List Entry) : Type 0 where
   pub size : ℕ
   pub header : headerOf extent s ≡ Sent sender size
   pub fill : Fill s firstBlock size es
@@ -28,7 +28,7 @@ pub record Made (extent : Extent) (s : List ℕ) (sender : ℕ) (es : List Entry
 abbrev pub Packet-exactly : Type 0
 Packet-exactly =
     (extent : Extent) (s : List ℕ) (sender : ℕ) (es : List Entry) →
-    (packetIn extent s ≡ good sender es → Made extent s sender es) × (Made extent s sender es → packetIn extent s ≡ good sender es)
+    (packetIn extent s ≡ good sender es → IsPacket extent s sender es) × (IsPacket extent s sender es → packetIn extent s ≡ good sender es)
 
 -- "a block runs past the end", at that block's offset: whole blocks lead to it, and it ends past the packet.
 pub record RunsPast (extent : Extent) (s : List ℕ) (offset : ℕ) : Type 0 where

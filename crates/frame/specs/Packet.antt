@@ -44,13 +44,13 @@ pub data Packet : Type 0 where
   bad : Refusal → Packet
 
 -- refusal 6 is judged over the whole packet, and inside it only
-abbrev pub filled : ℕ → Frames → Packet
-filled sender (whole es) = good sender es
-filled sender (past offset) = bad (blockPastEnd offset)
+abbrev pub ofFrames : ℕ → Frames → Packet
+ofFrames sender (whole es) = good sender es
+ofFrames sender (past offset) = bad (blockPastEnd offset)
 
 abbrev pub framed : Header → List ℕ → Packet
 framed (Refused r) s = bad r
-framed (Sent sender size) s = filled sender (framesIn s firstBlock size)
+framed (Sent sender size) s = ofFrames sender (framesIn s firstBlock size)
 
 -- the packet that is s, or that stands at the front of s
 unfoldable pub packetIn : Extent → List ℕ → Packet

@@ -52,10 +52,10 @@ module _ (s : List ℕ) (k sender count at : ℕ) (o : Here Extent·Whole s k se
     place = let n = o .counted in block-stands s sender (o .blocks) (o .packet) k (omega arith)
 
     pub located-fits : nextAt s at ≤ length s
-    located-fits = rw (o .placed) (place .ends)
+    located-fits = rw (o .stands) (place .ends)
 
     located-block : chosen (packetOf s) k ≡ one (entryAt s at)
-    located-block = rw (o .packet, o .placed) (place .entry)
+    located-block = rw (o .packet, o .stands) (place .entry)
 
     located-read : Found (entryAt s at .kind) (readIn (blocksOf s) (entryAt s at)) ≡ blockOf (packetOf s) k
     located-read =

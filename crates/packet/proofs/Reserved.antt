@@ -15,7 +15,7 @@ use Rattle.block.proofs.Reserved.{read-cleared, cleared-size}
 use Rattle.frame.specs.declared.Extent.the-variants.{Whole as Extent·Whole}
 use Rattle.frame.specs.Frames.{Entry, nextAt, entryAt, firstBlock}
 use Rattle.frame.specs.Packet.{Packet, good, bad, Numbered, none, one, numbered, placeOf, sizeIn}
-use Rattle.frame.specs.Laws.{Fill, Made}
+use Rattle.frame.specs.Laws.{Fill, IsPacket}
 use Rattle.frame.proofs.FirstBytes.{Head, head-facts, head-good}
 use Rattle.frame.proofs.Filling.{packet-exactly}
 use Rattle.packet.specs.Blocks.{readAlone, measured, given, judged, readIn}
@@ -133,5 +133,5 @@ reserved-bytes s s′ sender es p a =
       from = rw (b 4 (omega arith) (omega arith), b 5 (omega arith) (omega arith), b 6 (omega arith) (omega arith), b 7 (omega arith) (omega arith)) (f .from);
       field = size ∙ f .field;
     } in
-    let made : Made Extent·Whole s′ sender (new .blocks) = record { size = m .size; header = head-good Extent·Whole s′ sender (m .size) head; fill = new .fill } in
+    let made : IsPacket Extent·Whole s′ sender (new .blocks) = record { size = m .size; header = head-good Extent·Whole s′ sender (m .size) head; fill = new .fill } in
     rw (p, packet-exactly Extent·Whole s′ sender (new .blocks) .1 made) (ap (good sender) (new .same))
