@@ -14,7 +14,7 @@ import tempfile
 HEADER, RUST, RATTLE = "include/nuvaskoe.h", "rust/nuvaskoe/src/boundary.rs", "crates/{}/src/lib.rt"
 ARCHIVE = "target/staticlib/libnuvaskoe.a"
 READ = ["crates.txt", "README.md", "include/nuvaskoe.h.in", HEADER, "rust/Cargo.toml", RUST,
-        "rust/nuvaskoe/src/refusals.rs", "crates/block/specs/Fields.antt"]
+        "rust/nuvaskoe/src/refusals.rs", "crates/block/specs/Fields.antt", "crates/ffi_block/specs/Answers.antt"]
 
 # What drifts, the file, and the text before and after.
 DRIFTS = [
@@ -34,6 +34,8 @@ DRIFTS = [
     ("a call missing from Rust", RUST, "    pub(crate) fn nuvaskoe_version() -> u32;\n", ""),
     ("a call missing from Rattle", RATTLE.format("ffi_tally"), "#[no_mangle]\npub extern \"C\" fn nuvaskoe_tally_close", "pub fn nuvaskoe_tally_close"),
     ("a constant of another value", RATTLE.format("bursts"), "OVER_RANGE: u16 = 65_534", "OVER_RANGE: u16 = 65_533"),
+    ("another place of the packets covered", "crates/ffi_block/specs/Answers.antt", "take 3 (fieldsOf", "take 4 (fieldsOf"),
+    ("two fields exchanged in layout order", "crates/block/specs/Fields.antt", "e .source ∷ e .index", "e .index ∷ e .source"),
     ("other words of a refusal", "README.md", "the card's check does not fit", "the card does not fit"),
 ]
 

@@ -34,7 +34,8 @@ class Source:
         self.refusal_words = _table(readme, "| N | Meaning | What to do |")
         reason_words = _table(readme, "| Reason | Meaning |")
         self.reasons = [(name, reason_words[self.constant("block::" + name)[0]][0]) for name in REASONS]
-        self.places = _places((root / "crates/block/specs/Fields.antt").read_text())
+        self.places = _places((root / "crates/block/specs/Fields.antt").read_text(),
+                              (root / "crates/ffi_block/specs/Answers.antt").read_text())
 
     def constant(self, expression):
         """The value of an expression over constants `crate::NAME`, as (number, Rattle type of the last one named)."""
@@ -98,10 +99,11 @@ def _table(readme, head):
     return {int(row[0]): row[1:] for row in cells}
 
 
-def _places(definitions):
-    """For each kind of block the names of its places at the boundary: its fields in layout order, from the definition
-    that the calls promise, and for a 241 the packets covered after its end."""
-    kinds = re.findall(r"^fieldsOf \((\w+) \w+\) =\s*(.*?)\[\]$", definitions, re.S | re.M)
+def _places(fields, answers):
+    """For each kind of block the names of its places at the boundary, from the definitions that the calls promise: its
+    fields in layout order, and where the packets covered are put among them, after the first few."""
+    kinds = re.findall(r"^fieldsOf \((\w+) \w+\) =\s*(.*?)\[\]$", fields, re.S | re.M)
     names = {kind: re.findall(r"\.«?(\w+)»? ∷", items) for kind, items in kinds}
-    names["Streams"].insert(names["Streams"].index("end") + 1, "packets")
+    for kind, first in re.findall(r"^shownOf \((\w+) \w+\) = take (\d+) \(fieldsOf .*?\+\+ covered\b", answers, re.M):
+        names[kind].insert(int(first), "packets")
     return names

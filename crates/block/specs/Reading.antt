@@ -29,13 +29,16 @@ unavailable = 65535
 unfoldable pub rateGood : ℕ → Bool
 rateGood r = leb r rateMax || eqb r unavailable
 
+abbrev pub ratesGood : ℕ → ℕ → Bool
+ratesGood burst gap = rateGood burst && rateGood gap
+
 -- "1, 2 or 3 good, 0 reserved"
 unfoldable pub flagGood : ℕ → Bool
 flagGood flag = leb 1 flag && leb flag 3
 
 -- what refusal 16 lets through: a flag and two rates that reading would not drop
 unfoldable pub summaryGood : ℕ → ℕ → ℕ → Bool
-summaryGood flag burst gap = flagGood flag && (rateGood burst && rateGood gap)
+summaryGood flag burst gap = flagGood flag && ratesGood burst gap
 
 -- D1
 abbrev pub sized : ℕ → List ℕ → BlockRead → BlockRead
@@ -45,7 +48,7 @@ sized words body answer = unless (eqb (length body) (4 * words)) (Dropped badSiz
 unfoldable pub summaryRead : ℕ → ℕ → ℕ → Block → BlockRead
 summaryRead flag burst gap b =
     unless (flagGood flag) (Dropped badFlag)
-    (unless (rateGood burst && rateGood gap) (Dropped badRate)
+    (unless (ratesGood burst gap) (Dropped badRate)
     (Typed b))
 
 unfoldable pub readMeasurement : List ℕ → BlockRead

@@ -3,8 +3,9 @@
 use Prim.Native.Nat.{ℕ, _*_, _/_}
 use mathlib.Core.Bool.{cond, _||_}
 use mathlib.Core.List.{List, [], _∷_, _++_}
-use lib.Dec.{eqb}
+use lib.Dec.{eqb, leb}
 use lib.ListN.{length, getD, drop, set}
+use Rattle.refusal.specs.Answer.{unless}
 use Rattle.wire.specs.BigEndian.{bytes16}
 use Rattle.block.specs.Types.{measurementType, lossType, discardType, effectiveType, streamsType}
 
@@ -28,7 +29,8 @@ clearedBody type body =
 abbrev pub blockBytes : ℕ → ℕ → List ℕ → List ℕ
 blockBytes type specific body = (type ∷ specific ∷ bytes16 (length body / 4)) ++ body
 
--- the whole block's bytes: its first word keeps its type and length
+-- a block's own bytes: its first word keeps its type and length; fewer than four bytes are no block, and stay
 abbrev pub clearedBytes : List ℕ → List ℕ
 clearedBytes bytes =
-    (getD bytes 0 0 ∷ clearedByte (getD bytes 0 0) (getD bytes 1 0) ∷ getD bytes 2 0 ∷ getD bytes 3 0 ∷ []) ++ clearedBody (getD bytes 0 0) (drop 4 bytes)
+    unless (leb 4 (length bytes)) bytes
+    ((getD bytes 0 0 ∷ clearedByte (getD bytes 0 0) (getD bytes 1 0) ∷ getD bytes 2 0 ∷ getD bytes 3 0 ∷ []) ++ clearedBody (getD bytes 0 0) (drop 4 bytes))

@@ -3,7 +3,7 @@
 use std::num::wrapping_sub_u16;
 ghost use mathlib.Core.Path.{_≡_};
 ghost use Rattle.block.specs.Layouts.{covered};
-ghost use Rattle.block.specs.Reading.{rateGood, flagGood, summaryGood, summaryRead, readMeasurement, readLoss, readDiscard, readEffective, readStreams, readBlock, readBytes, needsOf, measuresOf};
+ghost use Rattle.block.specs.Reading.{rateGood, ratesGood, flagGood, summaryGood, summaryRead, readMeasurement, readLoss, readDiscard, readEffective, readStreams, readBlock, readBytes, needsOf, measuresOf};
 
 pub const MEASUREMENT: u8 = 14;
 
@@ -315,7 +315,7 @@ fn judge_summary(flag: u8, burst_rate: u16, gap_rate: u16, b: Block) -> BlockRea
     if !flag_good(flag) {
         return BlockRead::Dropped(BAD_FLAG);
     }
-    if !(rate_good(burst_rate) & rate_good(gap_rate)) {
+    if !rates_good(burst_rate, gap_rate) {
         return BlockRead::Dropped(BAD_RATE);
     }
     BlockRead::Typed(b)
@@ -325,7 +325,7 @@ fn judge_summary(flag: u8, burst_rate: u16, gap_rate: u16, b: Block) -> BlockRea
 pub fn summary_good(flag: u8, burst_rate: u16, gap_rate: u16) -> bool
     ensures { λ r. ⌜ r ≡ summaryGood flag «burst_rate» «gap_rate» ⌝ }
 {
-    flag_good(flag) & (rate_good(burst_rate) & rate_good(gap_rate))
+    flag_good(flag) & rates_good(burst_rate, gap_rate)
 }
 
 // Whether an interval flag is one that reading lets through.
@@ -333,6 +333,13 @@ pub fn flag_good(flag: u8) -> bool
     ensures { λ t. ⌜ t ≡ flagGood flag ⌝ }
 {
     (1 <= flag) & (flag <= 3)
+}
+
+// Whether both rates are such.
+pub fn rates_good(burst_rate: u16, gap_rate: u16) -> bool
+    ensures { λ t. ⌜ t ≡ ratesGood «burst_rate» «gap_rate» ⌝ }
+{
+    rate_good(burst_rate) & rate_good(gap_rate)
 }
 
 fn rate_good(r: u16) -> bool

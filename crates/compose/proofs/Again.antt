@@ -6,6 +6,7 @@ use mathlib.Core.Logic.{_⊎_, inl, inr}
 use mathlib.Core.List.{List}
 use native.Mathlib.Omega.{arith}
 use native.Mathlib.Decide.{decLt}
+use borrow.Author.Tests.{le-leb}
 use native.Mathlib.Nat.{add-assoc}
 use lib.Dec.{leb}
 use lib.ListN.{length, getD, take, drop, length-take, List·getD-eq-default}
@@ -22,12 +23,13 @@ use Rattle.block.specs.Reserved.{clearedByte, clearedBody, blockBytes, clearedB
 use Rattle.block.specs.declared.Block.{Block}
 use Rattle.block.specs.declared.BlockRead.the-variants.{Typed, Dropped}
 use Rattle.block.proofs.Reserved.{cleared-size}
-use Rattle.encode.specs.Words.{wordsOf, writable}
+use Rattle.encode.specs.Words.{typeOf, specificOf, bodyWords, wordsOf, bytesOf, writable}
+use Rattle.encode.proofs.Framing.{type-small, specific-small}
 use Rattle.encode.specs.Laws.{Bytes}
 use Rattle.encode.proofs.Again.{written-again, typed-writable}
 use Rattle.frame.specs.declared.Extent.the-variants.{Front}
 use Rattle.frame.specs.Frames.{Entry, bodyLength, nextAt, entryAt, blockAt, firstBlock}
-use Rattle.frame.specs.Packet.{Packet, good, bad, one, numbered, placeOf, packetOf, frontPacket}
+use Rattle.frame.specs.Packet.{Packet, good, bad, one, numbered, placeOf, packetOf, frontPacket, sizeIn}
 use Rattle.frame.proofs.Blocks.{block-bytes, one-block}
 use Rattle.frame.proofs.Filling.{packet-numbers}
 use Rattle.frame.proofs.Numbering.{stands, number-none, packet-fill}
@@ -36,8 +38,10 @@ use Rattle.packet.specs.Answers.{found, blockOf}
 use Rattle.packet.specs.declared.BlockAt.the-variants.{Found, Refused as BlockAt·Refused}
 use Rattle.packet.proofs.Chosen.{body-long}
 use Rattle.packet.proofs.Judging.{own-but-unmeasured}
-use Rattle.compose.specs.Writing.{lengthAfter, lengthMax, sizeAfter, appended, appendAnswer, addAnswer}
-use Rattle.compose.specs.Laws.{Again, Written-again-in-packet}
+use Rattle.compose.specs.Writing.{lengthAfter, lengthMax, sizeAfter, appended, appendAnswer, ownOf, addAnswer}
+use Rattle.compose.specs.Laws.{afterAdd, Again, Written-again-in-packet}
+use Rattle.compose.proofs.Adding.{fit}
+use Rattle.compose.proofs.Growing.{added-good}
 
 -- a part of bytes is bytes
 part-small : (s : List ℕ) (i n : ℕ) → Bytes s → Bytes (take n (drop i s))
@@ -62,7 +66,8 @@ block-cleared s at small fits =
     let words : length (clearedBody kind body) / 4 ≡ getD s (at + 2) 0 * 256 + getD s (at + 3) 0 = omega (arith, cleared-size kind body, body-long s at fits) in
     let two : length (clearedBody kind body) / 4 / 256 ≡ getD (blockAt s at) 2 0 = omega (arith, byte 2 (omega arith)) in
     let three : length (clearedBody kind body) / 4 % 256 ≡ getD (blockAt s at) 3 0 = omega (arith, byte 3 (omega arith)) in
-    rw (b .kind, b .specific, b .body, ← two, ← three)
+    let long = b .long in
+    rw (le-leb 4 (length (blockAt s at)) (omega arith), b .kind, b .specific, b .body, ← two, ← three)
   where
     byte : (i : ℕ) → i < 4 → getD (blockAt s at) i 0 ≡ getD s (at + i) 0
     byte i l = rw (one-block s at fits .0) (getD-take (4 + bodyLength s at) (drop at s) i 0 (omega arith) ∙ getD-drop at s i 0)
@@ -84,6 +89,13 @@ let-by b w out h = go (frontPacket out) refl (rw w at h)
     go (bad r) p e = not-16 r (λ n. omega (arith, packet-numbers Front out r p)) (rw p at e)
     go (good sender es) p e = by (leb (lengthAfter out (length (wordsOf b))) lengthMax) (leb (sizeAfter out (length (wordsOf b))) (length out)) (rw p at e)
 
+-- what an add leaves at the packet's end
+last-bytes : (b : Block) (out : List ℕ) (n : ℕ) → addAnswer out b ≡ Size n → drop (sizeIn out) (take n (afterAdd out b)) ≡ bytesOf b
+unfolding bytesOf
+last-bytes b out n a =
+    let f = fit out (ownOf b) (length (wordsOf b)) n a in
+    added-good out (ownOf b) (typeOf b) (specificOf b) (bodyWords b) (f .sender) (f .blocks) n (record { type-fits = type-small b; specific-fits = specific-small b; packet = f .packet; answer = a }) .bytes
+
 pub written-in-packet : Written-again-in-packet
 unfolding readAlone entryAt
 written-in-packet s k type b small h = go (packetOf s) refl h
@@ -95,7 +107,7 @@ written-in-packet s k type b small h = go (packetOf s) refl h
         record {
           place = at;
           start = rw (p, n);
-          same = written-again (entryAt s at .kind) (entryAt s at .specific) (entryAt s at .body) b (small (at + 1)) bytes r ∙ sym (block-cleared s at small fits);
+          same = λ out n a. last-bytes b out n a ∙ written-again (entryAt s at .kind) (entryAt s at .specific) (entryAt s at .body) b (small (at + 1)) bytes r ∙ sym (block-cleared s at small fits);
           fits = w .1;
           let-through = let-by b (w .0);
         }

@@ -1,4 +1,4 @@
--- A typed block that was added, read again: `Added-read` and `Measured-later` of specs/Laws.antt. Assumes nothing.
+-- A typed block that was added, read again: `Added-read`, `Added-unmeasured` and `Measured-later` of specs/Laws.antt. Assumes nothing.
 use Prim.Native.Nat.{ℕ, _<_}
 use mathlib.Core.Path.{_≡_, refl, sym, ap, _∙_}
 use mathlib.Core.Bool.{Bool, true, false}
@@ -10,6 +10,7 @@ use Rattle.refusal.specs.Table.{blockValue}
 use Rattle.refusal.specs.Answer.{unless}
 use Rattle.refusal.specs.declared.Judged.the-variants.{Accepted, Refused}
 use Rattle.refusal.specs.declared.Written.the-variants.{Size}
+use Rattle.refusal.proofs.Tests.{fails}
 use Rattle.block.specs.Reading.{readBytes, needsOf, measuresOf}
 use Rattle.block.specs.declared.Block.{Block}
 use Rattle.block.specs.declared.Block.the-variants.{Measured, Loss, Discard, Effective, Streams}
@@ -26,9 +27,10 @@ use Rattle.frame.proofs.Numbering.{number-last, number-front}
 use Rattle.packet.specs.Blocks.{readAlone, names, measures, measured, judged}
 use Rattle.packet.specs.Answers.{found}
 use Rattle.packet.specs.declared.BlockAt.the-variants.{Found}
-use Rattle.packet.proofs.Judging.{has-measurement, lacks-measurement}
+use Rattle.packet.proofs.Judging.{has-measurement, lacks-measurement, measured-anywhere}
+use Rattle.packet.proofs.Named.{measured-exactly}
 use Rattle.compose.specs.Writing.{ownOf, addAnswer}
-use Rattle.compose.specs.Laws.{afterAdd, Append, Added, Add, blockEntry, Added-read, Measured-later}
+use Rattle.compose.specs.Laws.{afterAdd, Append, Appended, Add, blockEntry, Added-read, Added-unmeasured, Measured-later}
 use Rattle.compose.proofs.Adding.{fit}
 use Rattle.compose.proofs.Growing.{added-good}
 use Rattle.compose.proofs.Earlier.{measured-behind}
@@ -54,7 +56,7 @@ module _ (s : List ℕ) (b : Block) (sender : ℕ) (es : List Entry) (n : ℕ) (
   abbrev new : Entry
   new = blockEntry b (sizeIn s)
 
-  behind : Added s (afterAdd s b) (typeOf b) (specificOf b) (bodyWords b) sender es n
+  behind : Appended s (afterAdd s b) (typeOf b) (specificOf b) (bodyWords b) sender es n
   behind = added-good s (ownOf b) (typeOf b) (specificOf b) (bodyWords b) sender es n (append s b sender es n a)
 
   alone : readAlone new ≡ Typed b
@@ -80,8 +82,16 @@ needs-measures (Discard d) source n x = refl
 needs-measures (Effective e) source n x = refl
 needs-measures (Streams t) source n x = refl
 
+pub added-unmeasured : Added-unmeasured
+added-unmeasured s b source sender es n a needs nowhere =
+    let first = behind s b sender es n a in
+    let e : Entry = blockEntry b (sizeIn s) in
+    let before : measured source es ≡ false = fails (measured source es) (λ h. nowhere (rw (a .packet) (measured-exactly sender es source .0 h))) in
+    let not-yet : measured source (es ++ e ∷ []) ≡ false = measured-behind source es e ∙ rw (before, alone s b sender es n a) (needs-measures b source needs source) in
+    rw (first .packet) (in-packet s b sender es n a (es ++ e ∷ []) (number-last es e) ∙ ap (Found (typeOf b)) (sym (lacks-measurement (es ++ e ∷ []) (Typed b) b source refl needs not-yet)))
+
 pub measured-later : Measured-later
-measured-later s b source sender es n a needs nowhere m n′ fits same answer =
+measured-later s b source sender es n a needs m n′ fits same answer =
     let first = behind s b sender es n a in
     let e : Entry = blockEntry b (sizeIn s) in
     let one-more : List Entry = es ++ e ∷ [] in
@@ -89,12 +99,9 @@ measured-later s b source sender es n a needs nowhere m n′ fits same answer =
     let a′ : Add out (Measured m) sender one-more n′ = record { fits = fits; packet = first .front; answer = answer } in
     let e′ : Entry = blockEntry (Measured m) (sizeIn out) in
     let second = behind out (Measured m) sender one-more n′ a′ in
-    let not-yet : measured source one-more ≡ false = measured-behind source es e ∙ rw (nowhere, alone s b sender es n a) (needs-measures b source needs source) in
     let now : measured source (one-more ++ e′ ∷ []) ≡ true =
-    measured-behind source one-more e′ ∙ rw (not-yet, alone out (Measured m) sender one-more n′ a′) (eq-eqb (m .source) source same) in
-    let short : length es < length one-more = rw (length-append es (e ∷ [])) (omega arith) in (
-      rw (first .packet) (in-packet s b sender es n a one-more (number-last es e) ∙ ap (Found (typeOf b)) (sym (lacks-measurement one-more (Typed b) b source refl needs not-yet))),
-      rw (second .packet)
-          (in-packet s b sender es n a (one-more ++ e′ ∷ []) (number-front one-more (e′ ∷ []) (length es) short ∙ number-last es e)
-          ∙ ap (Found (typeOf b)) (sym (has-measurement (one-more ++ e′ ∷ []) (Typed b) b source refl needs now))),
-    )
+    measured-anywhere source one-more [] e′ (rw (alone out (Measured m) sender one-more n′ a′) (eq-eqb (m .source) source same)) in
+    let short : length es < length one-more = rw (length-append es (e ∷ [])) (omega arith) in
+    rw (second .packet)
+    (in-packet s b sender es n a (one-more ++ e′ ∷ []) (number-front one-more (e′ ∷ []) (length es) short ∙ number-last es e)
+    ∙ ap (Found (typeOf b)) (sym (has-measurement (one-more ++ e′ ∷ []) (Typed b) b source refl needs now)))

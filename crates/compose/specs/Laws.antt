@@ -2,7 +2,7 @@
 -- proofs/.
 use Prim.Native.Nat.{ℕ, _+_, _<_}
 use mathlib.Core.Path.{_≡_}
-use mathlib.Core.Bool.{true, false}
+use mathlib.Core.Bool.{true}
 use mathlib.Core.Logic.{_⊎_}
 use mathlib.Core.List.{List, [], _∷_, _++_}
 use lib.ListN.{length, take, drop}
@@ -18,11 +18,12 @@ use Rattle.block.specs.declared.Block.{Block}
 use Rattle.block.specs.declared.Block.the-variants.{Measured}
 use Rattle.block.specs.declared.BlockRead.the-variants.{Typed, Dropped}
 use Rattle.block.specs.declared.Needs.the-variants.{MeasurementOf}
-use Rattle.encode.specs.Words.{typeOf, specificOf, bodyWords, blockWords, wordsOf, inBytes, bytesOf}
+use Rattle.encode.specs.Words.{typeOf, specificOf, bodyWords, blockWords, wordsOf, inBytes}
 use Rattle.encode.specs.Laws.{Word, Fits, Bytes}
 use Rattle.frame.specs.Frames.{Entry, blockAt}
 use Rattle.frame.specs.Packet.{Packet, good, sizeIn, packetOf, frontPacket}
-use Rattle.packet.specs.Blocks.{measures, measured, judged}
+use Rattle.packet.specs.Blocks.{measures, judged}
+use Rattle.packet.specs.Laws.{MeasuredAt}
 use Rattle.packet.specs.Answers.{blockOf, bodyOf, bodyStart, partOf}
 use Rattle.packet.specs.declared.BlockAt.the-variants.{Found}
 use Rattle.compose.specs.Writing.{newBytes, newAnswer, appendAnswer, grown, ownOf, addAnswer}
@@ -56,7 +57,7 @@ abbrev pub entryOf : ℕ → ℕ → List ℕ → ℕ → Entry
 entryOf type specific body at = record { kind = type; specific = specific; place = at; body = inBytes body }
 
 -- "Adding .. leaves the packet good": the same sender and blocks, and the new one behind them, whose bytes end the packet.
-pub record Added (s out : List ℕ) (type specific : ℕ) (body : List ℕ) (sender : ℕ) (es : List Entry) (n : ℕ) : Type 0 where
+pub record Appended (s out : List ℕ) (type specific : ℕ) (body : List ℕ) (sender : ℕ) (es : List Entry) (n : ℕ) : Type 0 where
   pub packet : packetOf (take n out) ≡ good sender (es ++ entryOf type specific body (sizeIn s) ∷ [])
   pub front : frontPacket out ≡ good sender (es ++ entryOf type specific body (sizeIn s) ∷ [])
   pub bytes : drop (sizeIn s) (take n out) ≡ inBytes (blockWords type specific body)
@@ -64,7 +65,7 @@ pub record Added (s out : List ℕ) (type specific : ℕ) (body : List ℕ) (sen
 abbrev pub Appended-good : Type 0
 Appended-good =
     (s : List ℕ) (own : Judged) (type specific : ℕ) (body : List ℕ) (sender : ℕ) (es : List Entry) (n : ℕ) → Append s own type specific body sender es n →
-    Added s (afterAppend s own (blockWords type specific body)) type specific body sender es n
+    Appended s (afterAppend s own (blockWords type specific body)) type specific body sender es n
 
 -- Every earlier block keeps its place and its body, and reads as before, but for a D4 that its block 14 has now lifted.
 pub record Lifted (p p′ : Packet) (e : Entry) (k : ℕ) : Type 0 where
@@ -102,20 +103,27 @@ Added-read =
     (readBytes (drop (sizeIn s) (take n (afterAdd s b))) ≡ Typed b)
     × (blockOf (packetOf (take n (afterAdd s b))) (length es) ≡ Found (typeOf b) (judged (es ++ blockEntry b (sizeIn s) ∷ []) (Typed b)))
 
--- A 17 or 18 whose source is not measured is D4 once it is added, and the one given once a 14 for its source is added too.
+-- A 17 or 18 is D4 once it is added, where no block that was there is a typed 14 for its source.
+abbrev pub Added-unmeasured : Type 0
+Added-unmeasured =
+    (s : List ℕ) (b : Block) (source sender : ℕ) (es : List Entry) (n : ℕ) → Add s b sender es n → needsOf b ≡ MeasurementOf source →
+    (MeasuredAt (frontPacket s) source → ⊥) →
+    blockOf (packetOf (take n (afterAdd s b))) (length es) ≡ Found (typeOf b) (Dropped unmeasured)
+
+-- It is the one given once a 14 for its source is added too.
 abbrev pub Measured-later : Type 0
 Measured-later =
-    (s : List ℕ) (b : Block) (source sender : ℕ) (es : List Entry) (n : ℕ) → Add s b sender es n → needsOf b ≡ MeasurementOf source → measured source es ≡ false →
+    (s : List ℕ) (b : Block) (source sender : ℕ) (es : List Entry) (n : ℕ) → Add s b sender es n → needsOf b ≡ MeasurementOf source →
     (m : Measurement) (n′ : ℕ) → Fits (Measured m) → m .source ≡ source → addAnswer (afterAdd s b) (Measured m) ≡ Size n′ →
-    (blockOf (packetOf (take n (afterAdd s b))) (length es) ≡ Found (typeOf b) (Dropped unmeasured))
-    × (blockOf (packetOf (take n′ (afterAdd (afterAdd s b) (Measured m)))) (length es) ≡ Found (typeOf b) (Typed b))
+    blockOf (packetOf (take n′ (afterAdd (afterAdd s b) (Measured m)))) (length es) ≡ Found (typeOf b) (Typed b)
 
 -- "A typed block read and written again has the same bytes but for reserved bits, now zero": of block k of any packet,
--- whose bytes in the packet begin four before its body; it fits its fields, and refusal 16 never meets it.
+-- whose bytes there begin four before its body, and of any buffer that it is added to; it fits its fields, and refusal 16
+-- never meets it.
 pub record Again (s : List ℕ) (k : ℕ) (b : Block) : Type 0 where
   pub place : ℕ
   pub start : bodyStart (packetOf s) k ≡ place + 4
-  pub same : bytesOf b ≡ clearedBytes (blockAt s place)
+  pub same : (out : List ℕ) (n : ℕ) → addAnswer out b ≡ Size n → drop (sizeIn out) (take n (afterAdd out b)) ≡ clearedBytes (blockAt s place)
   pub fits : Fits b
   pub let-through : (out : List ℕ) → addAnswer out b ≡ Refused blockValue → ⊥
 

@@ -47,10 +47,11 @@ appended (good sender es) own s n =
 unfoldable pub appendAnswer : List ℕ → Judged → ℕ → Written
 appendAnswer s own n = appended (frontPacket s) own s n
 
--- the packet with its new length field and the words behind it
+-- the packet at the front
 abbrev pub front : List ℕ → List ℕ
 front s = take (sizeIn s) s
 
+-- it with its new length field and the words behind it
 abbrev pub grown : List ℕ → List ℕ → List ℕ
 grown s words = take 2 (front s) ++ bytes16 (lengthAfter s (length words)) ++ drop 4 (front s) ++ inBytes words
 

@@ -1,5 +1,5 @@
 // Report packets written: document 01, "Writing". A new packet, and a typed block added to the packet at the
-// front of a lent buffer, which may be longer than the packet.
+// front of a lent buffer, which may be longer than the packet; what is judged before words of any kind are appended.
 use block::Block;
 use frame::Extent;
 use frame::Located;

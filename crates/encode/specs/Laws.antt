@@ -19,7 +19,7 @@ Half n = n < 65536
 abbrev pub Word : ℕ → Type 0
 Word n = n < 4294967296
 
--- every field fits its width, as in every block that code can hold
+-- every field fits its width, as in every block that code can hold; `writable` bounds the interval flag
 abbrev pub Fits : Block → Type 0
 Fits (Measured m) =
     Word (m .source) × Half (m .first) × Word (m .«extended_first») × Word (m .«extended_last») × Word (m .interval) × Word (m .seconds) × Word (m .fraction)

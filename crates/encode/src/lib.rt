@@ -17,6 +17,17 @@ pub struct BlockWords {
     pub words: [u32; 12],
 }
 
+// How many words a block has, its first among them.
+const MEASUREMENT_COUNT: usize = 1 + block::MEASUREMENT_WORDS as usize;
+
+const LOSS_COUNT: usize = 1 + block::LOSS_WORDS as usize;
+
+const DISCARD_COUNT: usize = 1 + block::DISCARD_WORDS as usize;
+
+const EFFECTIVE_COUNT: usize = 1 + block::EFFECTIVE_WORDS as usize;
+
+const STREAMS_COUNT: usize = 1 + block::STREAMS_WORDS as usize;
+
 // Whether a block may be written: a 17 or 18 that reading would drop may not.
 pub fn writable(b: Block) -> bool
     ensures { λ r. ⌜ r ≡ writable b ⌝ }
@@ -67,7 +78,7 @@ fn measurement_words(m: Measurement) -> BlockWords
     ensures { λ r. ⌜ r ≡ filled (wordsOf (Measured m)) ⌝ }
 {
     BlockWords {
-        count: 8,
+        count: MEASUREMENT_COUNT,
         words: [
             first_word(block::MEASUREMENT, 0, block::MEASUREMENT_WORDS),
             m.source,
@@ -89,7 +100,7 @@ fn loss_words(l: LossSummary) -> BlockWords
     ensures { λ r. ⌜ r ≡ filled (wordsOf (Loss l)) ⌝ }
 {
     BlockWords {
-        count: 4,
+        count: LOSS_COUNT,
         words: [
             first_word(block::LOSS, l.flag % 4 * 64, block::LOSS_WORDS),
             l.source,
@@ -111,7 +122,7 @@ fn discard_words(d: DiscardSummary) -> BlockWords
     ensures { λ r. ⌜ r ≡ filled (wordsOf (Discard d)) ⌝ }
 {
     BlockWords {
-        count: 3,
+        count: DISCARD_COUNT,
         words: [
             first_word(block::DISCARD, d.flag % 4 * 64, block::DISCARD_WORDS),
             d.source,
@@ -133,7 +144,7 @@ fn effective_words(e: EffectiveLoss) -> BlockWords
     ensures { λ r. ⌜ r ≡ filled (wordsOf (Effective e)) ⌝ }
 {
     BlockWords {
-        count: 3,
+        count: EFFECTIVE_COUNT,
         words: [
             first_word(block::EFFECTIVE, 0, block::EFFECTIVE_WORDS),
             e.source,
@@ -155,7 +166,7 @@ fn stream_words(t: StreamCounts) -> BlockWords
     ensures { λ r. ⌜ r ≡ filled (wordsOf (Streams t)) ⌝ }
 {
     BlockWords {
-        count: 12,
+        count: STREAMS_COUNT,
         words: [
             first_word(block::STREAMS, 0, block::STREAMS_WORDS),
             t.source,

@@ -12,7 +12,7 @@ use Rattle.survey.specs.Survey.{verdictOf}
 use Rattle.ffi_answer.specs.Answers.{none}
 use Rattle.ffi_block.specs.declared.BlockFields.{BlockFields}
 
--- thirteen numbers, in the header's order by type
+-- thirteen numbers, none of them a field
 abbrev pub noFields : List ℕ
 noFields = replicate 13 0
 

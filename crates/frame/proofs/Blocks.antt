@@ -8,6 +8,7 @@ use borrow.Author.Tests.{le-leb, lt-leb}
 use lib.ListN.{length, getD, take, drop, length-drop}
 use lib.Seq.{length-take-le, getD-take, getD-drop, drop-drop, drop-at, take-add}
 use Rattle.frame.specs.Frames.{bodyLength, nextAt, entryAt, blockAt, startAt}
+use Rattle.frame.specs.Laws.{Block-at}
 
 module _ (s : List ℕ) (at : ℕ) where
   pub no-block : length s < nextAt s at → (blockAt s at ≡ []) × (startAt s at ≡ 0)
@@ -18,14 +19,7 @@ module _ (s : List ℕ) (at : ℕ) where
   unfolding blockAt startAt
   one-block h = let t = le-leb (nextAt s at) (length s) h in (rw t, rw t)
 
--- what the bytes of a whole block are
-pub record BlockBytes (s : List ℕ) (at : ℕ) (bytes : List ℕ) : Type 0 where
-  pub long : length bytes ≡ 4 + bodyLength s at
-  pub kind : getD bytes 0 0 ≡ entryAt s at .kind
-  pub specific : getD bytes 1 0 ≡ entryAt s at .specific
-  pub body : drop 4 bytes ≡ entryAt s at .body
-
-pub block-bytes : (s : List ℕ) (at : ℕ) → nextAt s at ≤ length s → BlockBytes s at (blockAt s at)
+pub block-bytes : Block-at
 unfolding entryAt
 block-bytes s at h =
     rw (one-block s at h .0) (record {

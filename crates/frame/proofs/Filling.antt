@@ -9,10 +9,10 @@ use Rattle.refusal.specs.Table.{blockPastEnd}
 use Rattle.refusal.specs.declared.Refusal.{Refusal}
 use Rattle.frame.specs.declared.Extent.{Extent}
 use Rattle.frame.specs.declared.Header.{Header}
-use Rattle.frame.specs.declared.Header.the-variants.{Sent, Refused}
+use Rattle.frame.specs.declared.Header.the-variants.{Sender, Refused}
 use Rattle.frame.specs.Frames.{Entry, Frames, whole, past, before, nextAt, entryAt, firstBlock, framesFrom, framesIn}
 use Rattle.frame.specs.Packet.{good, bad, ofFrames, framed, headerOf, packetIn}
-use Rattle.frame.specs.Laws.{Fill, Blocks-fill, IsPacket, Packet-exactly, RunsPast, Past-exactly}
+use Rattle.frame.specs.Laws.{Fill, Blocks-fill, Leads, Blocks-past, IsPacket, Packet-exactly, RunsPast, Past-exactly}
 use Rattle.frame.proofs.FirstBytes.{head-bounds, head-numbers}
 use Rattle.frame.proofs.Stepping.{first-of, at-next, at-past, at-end, frames-end, frames-past, frames-next}
 
@@ -61,7 +61,7 @@ made : (extent : Extent) (s : List ℕ) (sender : ℕ) (es : List Entry) → pac
 unfolding packetIn
 made extent s sender es p = go (headerOf extent s) refl p
   where
-    within : (from size : ℕ) (frames : Frames) → headerOf extent s ≡ Sent from size → framesIn s firstBlock size ≡ frames → ofFrames from frames ≡ good sender es → IsPacket extent s sender es
+    within : (from size : ℕ) (frames : Frames) → headerOf extent s ≡ Sender from size → framesIn s firstBlock size ≡ frames → ofFrames from frames ≡ good sender es → IsPacket extent s sender es
     within from size (whole fs) h f e =
         let same : from ≡ sender = cc in
         let blocks : fs ≡ es = cc in
@@ -69,7 +69,7 @@ made extent s sender es p = go (headerOf extent s) refl p
     within from size (past offset) h f e = let z : _≡_ {A = ℕ} 0 1 = cc in absurd (omega arith)
 
     go : (header : Header) → headerOf extent s ≡ header → framed header s ≡ good sender es → IsPacket extent s sender es
-    go (Sent from size) h e = within from size (framesIn s firstBlock size) h refl e
+    go (Sender from size) h e = within from size (framesIn s firstBlock size) h refl e
     go (Refused r) h e = let z : _≡_ {A = ℕ} 0 1 = cc in absurd (omega arith)
 
 pub packet-exactly : Packet-exactly
@@ -78,12 +78,6 @@ packet-exactly extent s sender es =
     (made extent s sender es, λ m. rw (m .header, full s es firstBlock (m .size) (m .fill)))
 
 -- a block that runs past the end, seen from a place before it
-record Leads (s : List ℕ) (at to offset : ℕ) : Type 0 where
-  blocks : List Entry
-  filled : Fill s at offset blocks
-  starts : offset < to
-  ends : to < nextAt s offset
-
 leads : (most : ℕ) (s : List ℕ) (at to offset : ℕ) → framesFrom most s at to ≡ past offset → Leads s at to offset
 unfolding framesFrom
 leads zero s at to offset w = let z : _≡_ {A = ℕ} 0 1 = cc in absurd (omega arith)
@@ -114,20 +108,22 @@ runs s (e ∷ es) at to offset f starts ends =
     let low = fill-up s es (nextAt s at) offset (f .1) in
     at-next s at to (omega arith) (omega arith) ∙ ap (before (entryAt s at)) (runs s es (nextAt s at) to offset (f .1) starts ends)
 
+pub blocks-past : Blocks-past
+blocks-past s at to offset = (leads to s at to offset, λ l. runs s (l .blocks) at to offset (l .filled) (l .starts) (l .ends))
+
 past-means : (extent : Extent) (s : List ℕ) (offset : ℕ) → packetIn extent s ≡ bad (blockPastEnd offset) → RunsPast extent s offset
 unfolding packetIn
 past-means extent s offset p = go (headerOf extent s) refl p
   where
-    within : (sender size : ℕ) (frames : Frames) → headerOf extent s ≡ Sent sender size → framesIn s firstBlock size ≡ frames → ofFrames sender frames ≡ bad (blockPastEnd offset) → RunsPast extent s offset
+    within : (sender size : ℕ) (frames : Frames) → headerOf extent s ≡ Sender sender size → framesIn s firstBlock size ≡ frames → ofFrames sender frames ≡ bad (blockPastEnd offset) → RunsPast extent s offset
     within sender size (whole es) h f e = let z : _≡_ {A = ℕ} 0 1 = cc in absurd (omega arith)
     within sender size (past o) h f e =
         let refusals : blockPastEnd o ≡ blockPastEnd offset = cc in
         let same : o ≡ offset = ap (λ (q : Refusal). q .place) refusals in
-        let l = leads size s firstBlock size offset (f ∙ ap past same) in
-        record { sender = sender; size = size; blocks = l .blocks; header = h; leads = l .filled; starts = l .starts; ends = l .ends }
+        record { sender = sender; size = size; header = h; leads = leads size s firstBlock size offset (f ∙ ap past same) }
 
     go : (header : Header) → headerOf extent s ≡ header → framed header s ≡ bad (blockPastEnd offset) → RunsPast extent s offset
-    go (Sent sender size) h e = within sender size (framesIn s firstBlock size) h refl e
+    go (Sender sender size) h e = within sender size (framesIn s firstBlock size) h refl e
     go (Refused r) h e =
         let same : r ≡ blockPastEnd offset = cc in
         let few = head-numbers extent s r h in
@@ -147,7 +143,7 @@ packet-numbers extent s r p = go (headerOf extent s) refl p
         omega arith
 
     go : (header : Header) → headerOf extent s ≡ header → framed header s ≡ bad r → r .number ≤ 6
-    go (Sent sender size) h e = within sender (framesIn s firstBlock size) e
+    go (Sender sender size) h e = within sender (framesIn s firstBlock size) e
     go (Refused q) h e =
         let same : q ≡ r = cc in
         let few = head-numbers extent s r (h ∙ ap Refused same) in
@@ -156,4 +152,4 @@ packet-numbers extent s r p = go (headerOf extent s) refl p
 pub past-exactly : Past-exactly
 unfolding packetIn
 past-exactly extent s offset =
-    (past-means extent s offset, λ r. rw (r .header, runs s (r .blocks) firstBlock (r .size) offset (r .leads) (r .starts) (r .ends)))
+    (past-means extent s offset, λ r. rw (r .header, blocks-past s firstBlock (r .size) offset .1 (r .leads)))

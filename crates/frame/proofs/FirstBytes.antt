@@ -16,7 +16,7 @@ use Rattle.wire.specs.BigEndian.{be32}
 use Rattle.frame.specs.declared.Extent.{Extent}
 use Rattle.frame.specs.declared.Extent.the-variants.{Whole, Front}
 use Rattle.frame.specs.declared.Header.{Header}
-use Rattle.frame.specs.declared.Header.the-variants.{Sent, Refused}
+use Rattle.frame.specs.declared.Header.the-variants.{Sender, Refused}
 use Rattle.frame.specs.Frames.{firstBlock}
 use Rattle.frame.specs.Packet.{sizeIn, sizeFits, headerOf}
 
@@ -38,7 +38,7 @@ module _ (extent : Extent) (s : List ℕ) where
       -- what is left once byte 1 is 207
       module _ (type : getD s 1 0 ≡ 207) where
         rest : Bool → Bool → Header
-        rest fits plain = unless fits (Refused packetLength) (unless plain (Refused padding) (Sent (be32 s 4) (sizeIn s)))
+        rest fits plain = unless fits (Refused packetLength) (unless plain (Refused padding) (Sender (be32 s 4) (sizeIn s)))
 
         left : (fits plain : Bool) → sizeFits extent (sizeIn s) (length s) ≡ fits → eqb (getD s 0 0 / 32 % 2) 0 ≡ plain → rest fits plain ≡ headerOf extent s
         unfolding headerOf rest
@@ -53,7 +53,7 @@ module _ (extent : Extent) (s : List ℕ) where
         unfolding rest
         padded f h = left true false f (ne-eqb (getD s 0 0 / 32 % 2) 0 h)
 
-        pub sent : sizeFits extent (sizeIn s) (length s) ≡ true → getD s 0 0 / 32 % 2 ≡ 0 → Sent (be32 s 4) (sizeIn s) ≡ headerOf extent s
+        pub sent : sizeFits extent (sizeIn s) (length s) ≡ true → getD s 0 0 / 32 % 2 ≡ 0 → Sender (be32 s 4) (sizeIn s) ≡ headerOf extent s
         unfolding rest
         sent f h = left true true f (eq-eqb (getD s 0 0 / 32 % 2) 0 h)
 
@@ -67,10 +67,10 @@ pub record Head (extent : Extent) (s : List ℕ) (sender size : ℕ) : Type 0 wh
   pub from : be32 s 4 ≡ sender
   pub field : sizeIn s ≡ size
 
-past-test : (t : Bool) (r : Refusal) (rest : Header) (sender size : ℕ) → unless t (Refused r) rest ≡ Sent sender size → (t ≡ true) × (rest ≡ Sent sender size)
-past-test t r rest sender size h = passed t (Refused r) rest (Sent sender size) (λ e. let z : _≡_ {A = ℕ} 0 1 = cc in omega arith) h
+past-test : (t : Bool) (r : Refusal) (rest : Header) (sender size : ℕ) → unless t (Refused r) rest ≡ Sender sender size → (t ≡ true) × (rest ≡ Sender sender size)
+past-test t r rest sender size h = passed t (Refused r) rest (Sender sender size) (λ e. let z : _≡_ {A = ℕ} 0 1 = cc in omega arith) h
 
-pub head-facts : (extent : Extent) (s : List ℕ) (sender size : ℕ) → headerOf extent s ≡ Sent sender size → Head extent s sender size
+pub head-facts : (extent : Extent) (s : List ℕ) (sender size : ℕ) → headerOf extent s ≡ Sender sender size → Head extent s sender size
 unfolding headerOf
 head-facts extent s sender size h =
     let one = past-test (leb firstBlock (length s)) packetShort _ sender size h in
@@ -89,9 +89,9 @@ head-facts extent s sender size h =
       field = cc;
     }
 
-pub head-good : (extent : Extent) (s : List ℕ) (sender size : ℕ) → Head extent s sender size → headerOf extent s ≡ Sent sender size
+pub head-good : (extent : Extent) (s : List ℕ) (sender size : ℕ) → Head extent s sender size → headerOf extent s ≡ Sender sender size
 head-good extent s sender size f =
-    sym (sent extent s (f .room) (f .two) (f .type) (f .fits) (f .unpadded)) ∙ ap₂ Sent (f .from) (f .field)
+    sym (sent extent s (f .room) (f .two) (f .type) (f .fits) (f .unpadded)) ∙ ap₂ Sender (f .from) (f .field)
 
 -- a size that fits leaves room for the first eight bytes, and does not pass the slice
 pub size-bounds : (extent : Extent) (s : List ℕ) (size : ℕ) → firstBlock ≤ length s → sizeFits extent size (length s) ≡ true →
@@ -100,13 +100,13 @@ size-bounds Whole s size room f = let e = eqb-true size (length s) f in (omega a
 size-bounds Front s size room f =
     (leb-true firstBlock size (and-left (leb firstBlock size) (leb size (length s)) f), leb-true size (length s) (and-right (leb firstBlock size) (leb size (length s)) f))
 
-pub head-bounds : (extent : Extent) (s : List ℕ) (sender size : ℕ) → headerOf extent s ≡ Sent sender size → (firstBlock ≤ size) × (size ≤ length s)
+pub head-bounds : (extent : Extent) (s : List ℕ) (sender size : ℕ) → headerOf extent s ≡ Sender sender size → (firstBlock ≤ size) × (size ≤ length s)
 head-bounds extent s sender size h =
     let f = head-facts extent s sender size h in
     size-bounds extent s size (f .room) (rw (f .field) at (f .fits))
 
 -- the slice that a packet fills is as long as its size
-pub whole-length : (s : List ℕ) (sender size : ℕ) → headerOf Whole s ≡ Sent sender size → size ≡ length s
+pub whole-length : (s : List ℕ) (sender size : ℕ) → headerOf Whole s ≡ Sender sender size → size ≡ length s
 whole-length s sender size h =
     let f = head-facts Whole s sender size h in
     let e = eqb-true (sizeIn s) (length s) (f .fits) in
@@ -123,7 +123,7 @@ head-numbers extent s r h =
     is q n e = let same : q ≡ r = cc in rw (← same) n
 
     go : (a b c d e : Bool) →
-        unless a (Refused packetShort) (unless b (Refused version) (unless c (Refused packetType) (unless d (Refused packetLength) (unless e (Refused padding) (Sent (be32 s 4) (sizeIn s)))))) ≡ Refused r →
+        unless a (Refused packetShort) (unless b (Refused version) (unless c (Refused packetType) (unless d (Refused packetLength) (unless e (Refused padding) (Sender (be32 s 4) (sizeIn s)))))) ≡ Refused r →
         r .number ≤ 5
     go false b c d e h = is packetShort (omega arith) h
     go true false c d e h = is version (omega arith) h

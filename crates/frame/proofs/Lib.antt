@@ -6,3 +6,4 @@ pub mod Filling
 pub mod Locating
 pub mod Kept
 pub mod Numbering
+pub mod Reserved

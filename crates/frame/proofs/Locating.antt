@@ -8,7 +8,7 @@ use lib.ListN.{length}
 use Rattle.refusal.specs.declared.Refusal.{Refusal}
 use Rattle.refusal.specs.Table.{blockPastEnd}
 use Rattle.frame.specs.declared.Extent.{Extent}
-use Rattle.frame.specs.declared.Header.the-variants.{Sent, Refused}
+use Rattle.frame.specs.declared.Header.the-variants.{Sender, Refused}
 use Rattle.frame.specs.declared.Walked.{Walked}
 use Rattle.frame.specs.declared.Walked.the-variants.{Blocks, Past}
 use Rattle.frame.specs.declared.Located.{Located}
@@ -26,7 +26,7 @@ module _ (extent : Extent) (s : List ℕ) (k : ℕ) where
   unfolding packetIn
   header-refused r h = rw h
 
-  pub walked : (sender size : ℕ) → headerOf extent s ≡ Sent sender size → (w : Walked) → w ≡ walkedOf (framesIn s firstBlock (min size (length s))) k →
+  pub walked : (sender size : ℕ) → headerOf extent s ≡ Sender sender size → (w : Walked) → w ≡ walkedOf (framesIn s firstBlock (min size (length s))) k →
       locatedBy sender w ≡ locatedOf (packetIn extent s) k
   unfolding packetIn
   walked sender size h w e =

@@ -29,7 +29,7 @@ entryAt s at =
 unfoldable pub blockAt : List ℕ → ℕ → List ℕ
 blockAt s at = unless (leb (nextAt s at) (length s)) [] (take (4 + bodyLength s at) (drop at s))
 
--- where that part of s begins
+-- where that part of s begins; 0 where it is empty
 unfoldable pub startAt : List ℕ → ℕ → ℕ
 startAt s at = unless (leb (nextAt s at) (length s)) 0 at
 
@@ -50,7 +50,7 @@ framesFrom (suc most) s at to =
     (unless (leb (nextAt s at) to) (past at)
     (before (entryAt s at) (framesFrom most s (nextAt s at) to)))
 
--- all of them: there are never more than `to` is
+-- all of them: there are never more than `to` of them
 abbrev pub framesIn : List ℕ → ℕ → ℕ → Frames
 framesIn s at to = framesFrom to s at to
 

@@ -13,7 +13,7 @@ use Rattle.wire.specs.BigEndian.{be16, be32}
 use Rattle.frame.specs.declared.Extent.{Extent}
 use Rattle.frame.specs.declared.Extent.the-variants.{Whole, Front}
 use Rattle.frame.specs.declared.Header.{Header}
-use Rattle.frame.specs.declared.Header.the-variants.{Sent, Refused}
+use Rattle.frame.specs.declared.Header.the-variants.{Sender, Refused}
 use Rattle.frame.specs.declared.Walked.{Walked}
 use Rattle.frame.specs.declared.Walked.the-variants.{Blocks, Past}
 use Rattle.frame.specs.declared.Located.{Located}
@@ -37,7 +37,7 @@ headerOf extent s =
     (unless (eqb (getD s 1 0) 207) (Refused packetType)
     (unless (sizeFits extent (sizeIn s) (length s)) (Refused packetLength)
     (unless (eqb (getD s 0 0 / 32 % 2) 0) (Refused padding)
-    (Sent (be32 s 4) (sizeIn s))))))
+    (Sender (be32 s 4) (sizeIn s))))))
 
 pub data Packet : Type 0 where
   good : ℕ → List Entry → Packet
@@ -50,7 +50,7 @@ ofFrames sender (past offset) = bad (blockPastEnd offset)
 
 abbrev pub framed : Header → List ℕ → Packet
 framed (Refused r) s = bad r
-framed (Sent sender size) s = ofFrames sender (framesIn s firstBlock size)
+framed (Sender sender size) s = ofFrames sender (framesIn s firstBlock size)
 
 -- the packet that is s, or that stands at the front of s
 unfoldable pub packetIn : Extent → List ℕ → Packet

@@ -30,14 +30,15 @@ pub enum Extent {
     Front,
 }
 
-// A packet judged as a whole: its sender, the number of its blocks and the place of the one asked for.
+// A packet judged as a whole: its sender, the number of its blocks and the place of the one asked for, 0 where there is
+// none.
 pub enum Located {
     Good(u32, usize, usize),
     Refused(Refusal),
 }
 
-// What a walk finds: the number of blocks and the place of the one asked for, or the place of a block that
-// runs past the end.
+// What a walk finds: the number of blocks and the place of the one asked for, 0 where there is none; or the place of a
+// block that runs past the end.
 pub enum Walked {
     Blocks(usize, usize),
     Past(usize),
@@ -45,7 +46,7 @@ pub enum Walked {
 
 // What the first eight bytes say: who sent the packet and its size in bytes, or why it is refused.
 enum Header {
-    Sent(u32, usize),
+    Sender(u32, usize),
     Refused(Refusal),
 }
 
@@ -54,7 +55,7 @@ pub fn locate(s: &[u8], extent: Extent, index: usize) -> Located
     ensures { λ r. ⌜ r ≡ locatedOf (packetIn extent (now (s .entry))) index ⌝ }
 {
     match read_header(s, extent) {
-        Header::Sent(sender, size) => match walk(s, FIRST_BLOCK, size, index) {
+        Header::Sender(sender, size) => match walk(s, FIRST_BLOCK, size, index) {
             Walked::Blocks(count, at) => Located::Good(sender, count, at),
             Walked::Past(at) => Located::Refused(refusal::block_past_end(at)),
         },
@@ -122,7 +123,7 @@ fn read_header(s: &[u8], extent: Extent) -> Header
     if first / 32 % 2 != 0 {
         return Header::Refused(refusal::PADDING);
     }
-    Header::Sent(wire::u32_at(s, 4), size)
+    Header::Sender(wire::u32_at(s, 4), size)
 }
 
 // Whether a packet of this size is what a slice of this length holds.

@@ -10,13 +10,13 @@ use Rattle.block.specs.declared.BlockRead.{BlockRead}
 use Rattle.block.specs.declared.BlockRead.the-variants.{Dropped}
 use Rattle.frame.specs.Frames.{bodyLength, entryAt}
 use Rattle.packet.specs.Blocks.{readIn}
-use Rattle.packet.specs.Steps.{Whole, blocksOf}
+use Rattle.packet.specs.Steps.{WholeBlocks, blocksOf}
 use Rattle.survey.specs.Survey.{listing}
 use Rattle.lines.specs.Lines.{blockLine}
 
 -- the blocks of s are whole, and the table begins with the place and the verdict of each
 pub record Listed (s table : List ℕ) : Type 0 where
-  pub blocks : Whole s
+  pub blocks : WholeBlocks s
   pub rest : List ℕ
   pub told : table ≡ listing (blocksOf s) (blocksOf s) ++ rest
 

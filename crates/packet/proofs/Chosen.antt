@@ -23,7 +23,7 @@ use Rattle.packet.specs.declared.BlockAt.the-variants.{Found, Refused}
 use Rattle.packet.specs.declared.Part.{Part}
 use Rattle.packet.specs.Blocks.{judged, readIn}
 use Rattle.packet.specs.Answers.{headOf, chosen, found, blockOf, partOf}
-use Rattle.packet.specs.Steps.{blocksOf, Whole}
+use Rattle.packet.specs.Steps.{blocksOf, WholeBlocks}
 use Rattle.packet.specs.Laws.{PartIs, Body-is-part, Absent, Absent-exactly}
 use Rattle.packet.proofs.Measuring.{read-at}
 
@@ -31,7 +31,7 @@ module _ (s : List ℕ) (sender : ℕ) (es : List Entry) (p : packetOf s ≡ goo
   pub blocks-are : blocksOf s ≡ es
   blocks-are = rw (packet-frames s sender es p)
 
-  pub blocks-whole : Whole s
+  pub blocks-whole : WholeBlocks s
   blocks-whole = rw (packet-frames s sender es p)
 
   block-stands : (k : ℕ) → k < length es → Stands s firstBlock (length s) es k

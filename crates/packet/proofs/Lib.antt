@@ -1,4 +1,5 @@
 pub mod Measuring
 pub mod Chosen
 pub mod Judging
+pub mod Named
 pub mod Reserved

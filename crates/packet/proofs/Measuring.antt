@@ -12,7 +12,7 @@ use Rattle.frame.specs.Frames.{Entry, whole, nextAt, entryAt, blockAt, framesIn
 use Rattle.frame.proofs.Stepping.{first-of, at-end}
 use Rattle.frame.proofs.Blocks.{block-bytes}
 use Rattle.packet.specs.Blocks.{readAlone, names, measures, measured}
-use Rattle.packet.specs.Steps.{blocksOf, Whole}
+use Rattle.packet.specs.Steps.{blocksOf, WholeBlocks}
 
 -- the bytes of a block read as its entry
 pub read-at : (s : List ℕ) (at : ℕ) → nextAt s at ≤ length s → readBytes (blockAt s at) ≡ readAlone (entryAt s at)
@@ -28,7 +28,7 @@ pub record Search (s : List ℕ) (source at : ℕ) : Type 0 where
   pub frames : framesIn s at (length s) ≡ whole left
   pub same : measured source (blocksOf s) ≡ measured source left
 
-pub search-start : (s : List ℕ) (source : ℕ) → Whole s → Search s source firstBlock
+pub search-start : (s : List ℕ) (source : ℕ) → WholeBlocks s → Search s source firstBlock
 search-start s source w = record { left = blocksOf s; frames = w; same = refl }
 
 module _ (s : List ℕ) (source at : ℕ) (r : Search s source at) where

@@ -45,7 +45,7 @@ clear-read es e = rw (clear-alone e) (go (readAlone e))
     go Unknown = refl
     go (Dropped reason) = refl
 
-clear-length : (es : List Entry) → length (clearedAll es) ≡ length es
+pub clear-length : (es : List Entry) → length (clearedAll es) ≡ length es
 unfolding clearedAll
 clear-length [] = refl
 clear-length (e ∷ es) = ap suc (clear-length es)
@@ -134,4 +134,5 @@ reserved-bytes s s′ sender es p a =
       field = size ∙ f .field;
     } in
     let made : IsPacket Extent·Whole s′ sender (new .blocks) = record { size = m .size; header = head-good Extent·Whole s′ sender (m .size) head; fill = new .fill } in
-    rw (p, packet-exactly Extent·Whole s′ sender (new .blocks) .1 made) (ap (good sender) (new .same))
+    rw (p, packet-exactly Extent·Whole s′ sender (new .blocks) .1 made)
+    (reserved-in-packet (good sender es) (good sender (new .blocks)) (ap (good sender) (new .same)))

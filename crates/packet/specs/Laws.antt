@@ -8,13 +8,15 @@ use lib.ListN.{length, take, drop}
 use Rattle.refusal.specs.Table.{noSuchBlock}
 use Rattle.block.specs.Types.{unmeasured}
 use Rattle.block.specs.Reading.{needsOf}
+use Rattle.block.specs.declared.Measurement.{Measurement}
 use Rattle.block.specs.declared.Block.{Block}
+use Rattle.block.specs.declared.Block.the-variants.{Measured}
 use Rattle.block.specs.declared.BlockRead.the-variants.{Typed, Dropped}
 use Rattle.block.specs.declared.Needs.the-variants.{MeasurementOf}
 use Rattle.frame.specs.Frames.{Entry}
-use Rattle.frame.specs.Packet.{packetOf}
+use Rattle.frame.specs.Packet.{Packet, good, packetOf}
 use Rattle.packet.specs.declared.PacketHead.the-variants.{Sent}
-use Rattle.packet.specs.declared.BlockAt.the-variants.{Refused}
+use Rattle.packet.specs.declared.BlockAt.the-variants.{Found, Refused}
 use Rattle.packet.specs.Blocks.{readAlone, measures, measured, readIn}
 use Rattle.packet.specs.Answers.{headOf, blockOf, bodyOf, bodyStart}
 
@@ -36,6 +38,17 @@ Unmeasured-exactly = (es : List Entry) (e : Entry) → (readIn es e ≡ Dropped 
 -- "anywhere in the packet, before or after": one well-sized block 14 of a source is enough, wherever it stands.
 abbrev pub Measured-anywhere : Type 0
 Measured-anywhere = (source : ℕ) (front back : List Entry) (e : Entry) → measures source e ≡ true → measured source (front ++ e ∷ back) ≡ true
+
+-- A source is measured in a packet exactly where one of its blocks, asked for by index, is a typed 14 for that source.
+pub record MeasuredAt (p : Packet) (source : ℕ) : Type 0 where
+  pub index : ℕ
+  pub type : ℕ
+  pub block : Measurement
+  pub is : blockOf p index ≡ Found type (Typed (Measured block))
+  pub names : block .source ≡ source
+
+abbrev pub Measured-exactly : Type 0
+Measured-exactly = (sender : ℕ) (es : List Entry) (source : ℕ) → (measured source es ≡ true → MeasuredAt (good sender es) source) × (MeasuredAt (good sender es) source → measured source es ≡ true)
 
 -- The body is the part of the packet that its start and length give, for any bytes and any index.
 pub record PartIs (s : List ℕ) (k : ℕ) : Type 0 where

@@ -20,7 +20,7 @@ abbrev pub clearedPacket : Packet → Packet
 clearedPacket (good sender es) = good sender (clearedAll es)
 clearedPacket (bad r) = bad r
 
--- the same number of blocks, the same answer for every block, D4 too, and bodies at the same place
+-- the same sender and number of blocks, the same answer for every block, D4 too, and bodies at the same place
 pub record Same (p p′ : Packet) : Type 0 where
   pub head : headOf p ≡ headOf p′
   pub block : (k : ℕ) → blockOf p k ≡ blockOf p′ k
@@ -41,4 +41,4 @@ pub record Alike (s s′ : List ℕ) (es : List Entry) : Type 0 where
 
 abbrev pub Reserved-bytes : Type 0
 Reserved-bytes =
-    (s s′ : List ℕ) (sender : ℕ) (es : List Entry) → packetOf s ≡ good sender es → Alike s s′ es → clearedPacket (packetOf s) ≡ clearedPacket (packetOf s′)
+    (s s′ : List ℕ) (sender : ℕ) (es : List Entry) → packetOf s ≡ good sender es → Alike s s′ es → Same (packetOf s) (packetOf s′)

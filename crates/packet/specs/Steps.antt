@@ -8,5 +8,5 @@ use Rattle.frame.specs.Frames.{Entry, whole, framesOf, entriesOf}
 abbrev pub blocksOf : List ℕ → List Entry
 blocksOf s = entriesOf (framesOf s)
 
-abbrev pub Whole : List ℕ → Type 0
-Whole s = framesOf s ≡ whole (blocksOf s)
+abbrev pub WholeBlocks : List ℕ → Type 0
+WholeBlocks s = framesOf s ≡ whole (blocksOf s)

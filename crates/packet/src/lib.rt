@@ -13,7 +13,7 @@ ghost use Rattle.block.specs.Reading.{readBytes, measuresOf};
 ghost use Rattle.frame.specs.Packet.{packetOf};
 ghost use Rattle.packet.specs.Blocks.{names, measured, judged};
 ghost use Rattle.packet.specs.Answers.{headOf, blockOf, bodyOf, bodyStart, partOf};
-ghost use Rattle.packet.specs.Steps.{blocksOf, Whole};
+ghost use Rattle.packet.specs.Steps.{blocksOf, WholeBlocks};
 
 // What a packet says of itself: its sender and the number of its blocks, or why it is refused.
 pub enum PacketHead {
@@ -100,7 +100,7 @@ pub fn body(packet: &[u8], index: usize) -> &[u8]
 
 // A block that was read by itself, judged among the blocks of its packet: D4.
 fn judge(s: &[u8], own: BlockRead) -> BlockRead
-    requires { ⌜ Whole (now s) ⌝ }
+    requires { ⌜ WholeBlocks (now s) ⌝ }
     ensures { λ r. ⌜ r ≡ judged (blocksOf (now (s .entry))) own ⌝ }
 {
     match own {
@@ -120,7 +120,7 @@ fn judge(s: &[u8], own: BlockRead) -> BlockRead
 
 // Whether a well-sized measurement block for this source stands anywhere in the packet.
 fn has_measurement(s: &[u8], source: u32) -> bool
-    requires { ⌜ Whole (now s) ⌝ }
+    requires { ⌜ WholeBlocks (now s) ⌝ }
     ensures { λ r. ⌜ r ≡ measured source (blocksOf (now (s .entry))) ⌝ }
 {
     let mut at = frame::FIRST_BLOCK;

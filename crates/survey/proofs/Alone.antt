@@ -1,7 +1,7 @@
 -- The verdict of a block from its bytes is that of what reading them gives, where nothing is measured. Assumes nothing.
 use Prim.Native.Nat.{ℕ, _+_, _*_, _≤_}
 use mathlib.Core.Path.{_≡_, refl, sym, ap, ap₂, _∙_}
-use mathlib.Core.Bool.{Bool, true, false, _&&_}
+use mathlib.Core.Bool.{Bool, true, false}
 use mathlib.Core.List.{List, []}
 use native.Mathlib.Omega.{arith}
 use native.Mathlib.Decide.{ℕ-discrete}
@@ -13,7 +13,7 @@ use Rattle.wire.specs.BigEndian.{be16, u16At}
 use Rattle.wire.proofs.Numbers.{u16-inside}
 use Rattle.block.specs.Types.{measurementType, lossType, discardType, effectiveType, streamsType, measurementWords, lossWords, discardWords, effectiveWords, streamsWords, badFlag, badRate, unmeasured}
 use Rattle.block.specs.Layouts.{flagIn}
-use Rattle.block.specs.Reading.{flagGood, rateGood, summaryGood, sized, summaryRead, needsOf, readMeasurement, readLoss, readDiscard, readEffective, readStreams, readBlock, readBytes}
+use Rattle.block.specs.Reading.{flagGood, ratesGood, sized, summaryRead, needsOf, readMeasurement, readLoss, readDiscard, readEffective, readStreams, readBlock, readBytes}
 use Rattle.block.specs.declared.Block.{Block}
 use Rattle.block.specs.declared.BlockRead.the-variants.{Typed, Dropped}
 use Rattle.block.specs.declared.Needs.the-variants.{Nothing, MeasurementOf}
@@ -40,10 +40,10 @@ module _ (bytes : List ℕ) (some : 4 ≤ length bytes) where
 
   summary-is : (words flag : ℕ) (b : Block) (source : ℕ) → 2 ≤ words → needsOf b ≡ MeasurementOf source →
       summaryVerdict bytes (4 + 4 * words) flag ≡ verdictOf (judged [] (sized words body (summaryRead flag (be16 body 4) (be16 body 6) b)))
-  unfolding summaryRead summaryGood measured
+  unfolding summaryRead measured
   summary-is words flag b source w n = go (ℕ-discrete (length bytes) (4 + 4 * words))
     where
-      tests : (f r : Bool) → unless f badFlag (unless (f && r) badRate unmeasured) ≡ verdictOf (judged [] (unless f (Dropped badFlag) (unless r (Dropped badRate) (Typed b))))
+      tests : (f r : Bool) → unless f badFlag (unless r badRate unmeasured) ≡ verdictOf (judged [] (unless f (Dropped badFlag) (unless r (Dropped badRate) (Typed b))))
       tests false r = refl
       tests true false = refl
       tests true true = rw n
@@ -51,7 +51,7 @@ module _ (bytes : List ℕ) (some : 4 ≤ length bytes) where
       go : Dec (length bytes ≡ 4 + 4 * words) → summaryVerdict bytes (4 + 4 * words) flag ≡ verdictOf (judged [] (sized words body (summaryRead flag (be16 body 4) (be16 body 6) b)))
       go (yes e) =
           rw (eq-eqb (length bytes) (4 + 4 * words) e, eq-eqb (length body) (4 * words) (omega (arith, length-drop 4 bytes)), half 4 (omega arith), half 6 (omega arith))
-          (tests (flagGood flag) (rateGood (be16 body 4) && rateGood (be16 body 6)))
+          (tests (flagGood flag) (ratesGood (be16 body 4) (be16 body 6)))
       go (no e) = rw (ne-eqb (length bytes) (4 + 4 * words) e, ne-eqb (length body) (4 * words) (λ h. e (omega (arith, length-drop 4 bytes))))
 
   -- the cases of a type

@@ -7,7 +7,7 @@ use lib.ListN.{length}
 use Rattle.refusal.specs.Answer.{unless}
 use Rattle.wire.specs.BigEndian.{u16At}
 use Rattle.block.specs.Types.{badSize, badFlag, badRate, unmeasured}
-use Rattle.block.specs.Reading.{flagGood, summaryGood}
+use Rattle.block.specs.Reading.{flagGood, ratesGood}
 
 abbrev pub sizeVerdict : ℕ → ℕ → ℕ
 sizeVerdict size wanted = unless (eqb size wanted) badSize 0
@@ -16,5 +16,5 @@ abbrev pub summaryVerdict : List ℕ → ℕ → ℕ → ℕ
 summaryVerdict bytes wanted flag =
     unless (eqb (length bytes) wanted) badSize
     (unless (flagGood flag) badFlag
-    (unless (summaryGood flag (u16At bytes 8) (u16At bytes 10)) badRate
+    (unless (ratesGood (u16At bytes 8) (u16At bytes 10)) badRate
     unmeasured))

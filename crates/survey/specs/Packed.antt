@@ -7,7 +7,7 @@ use mathlib.Core.List.{List, [], _∷_, _++_}
 use lib.ListN.{length, take, drop}
 use Rattle.frame.specs.Frames.{Entry}
 use Rattle.packet.specs.Blocks.{measured, readIn}
-use Rattle.packet.specs.Steps.{blocksOf, Whole}
+use Rattle.packet.specs.Steps.{blocksOf, WholeBlocks}
 use Rattle.survey.specs.Survey.{verdictOf}
 use Rattle.survey.specs.Sources.{member, Table}
 
@@ -30,7 +30,7 @@ spreadOf (p ∷ ps) = p / verdicts ∷ p % verdicts ∷ spreadOf ps
 
 -- whole blocks, places that fit a packed number, and room for two numbers a block
 pub record Room (s out : List ℕ) (count : ℕ) : Type 0 where
-  pub whole-blocks : Whole s
+  pub whole-blocks : WholeBlocks s
   pub short : length s ≤ 262144
   pub counted : count ≡ length (blocksOf s)
   pub fits : 2 * count ≤ length out

@@ -108,7 +108,7 @@ fn summary_verdict(bytes: &[u8], wanted: usize, flag: u8) -> u8
     if !block::flag_good(flag) {
         return block::BAD_FLAG;
     }
-    if !block::summary_good(flag, wire::u16_at(bytes, 8), wire::u16_at(bytes, 10)) {
+    if !block::rates_good(wire::u16_at(bytes, 8), wire::u16_at(bytes, 10)) {
         return block::BAD_RATE;
     }
     block::UNMEASURED

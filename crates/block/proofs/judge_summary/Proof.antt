@@ -1,5 +1,4 @@
 -- `block::judge_summary` meets its contract: each return is a line of the definition, by what the tests answered. Assumes nothing.
-use mathlib.Core.Bool.{_&&_}
 use borrow.Author.Tests.{not-true, not-false}
 use Rattle.block.specs.Reading.{summaryRead}
 use borrow.Author.Needs.{needs}
@@ -13,14 +12,14 @@ returns c = rw (← c .before .flag-good .ensures, not-true (c .before .flag-goo
 returns-2 : tie.Need-returns-2
 unfolding summaryRead
 returns-2 c =
-    let flagged = c .before .before .before in
-    rw (← flagged .before .flag-good .ensures, not-false (flagged .before .flag-good .result) (flagged .if1 .left), ← c .before .before .rate-good .ensures, ← c .before .rate-good2 .ensures, not-true (c .before .before .rate-good .result && c .before .rate-good2 .result) (c .if2 .taken))
+    let flagged = c .before .before in
+    rw (← flagged .before .flag-good .ensures, not-false (flagged .before .flag-good .result) (flagged .if1 .left), ← c .before .rates-good .ensures, not-true (c .before .rates-good .result) (c .if2 .taken))
 
 returns-3 : tie.Need-returns-3
 unfolding summaryRead
 returns-3 c =
-    let flagged = c .before .before .before in
-    rw (← flagged .before .flag-good .ensures, not-false (flagged .before .flag-good .result) (flagged .if1 .left), ← c .before .before .rate-good .ensures, ← c .before .rate-good2 .ensures, not-false (c .before .before .rate-good .result && c .before .rate-good2 .result) (c .if2 .left))
+    let flagged = c .before .before in
+    rw (← flagged .before .flag-good .ensures, not-false (flagged .before .flag-good .result) (flagged .if1 .left), ← c .before .rates-good .ensures, not-false (c .before .rates-good .result) (c .if2 .left))
 
 pub judge-summary-spec : {M : Type 1} → statement M
 judge-summary-spec =
@@ -28,7 +27,6 @@ judge-summary-spec =
     (tie.spec
     (λ c κs. search needs)
     returns
-    (λ c κs. search needs)
     (λ c κs. search needs)
     returns-2
     returns-3)

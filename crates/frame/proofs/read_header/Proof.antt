@@ -5,7 +5,7 @@ use native.Mathlib.Omega.{arith}
 use borrow.Author.Tests.{not-true, not-false}
 use lib.ListN.{length}
 use Rattle.wire.proofs.Numbers.{u16-inside, u32-inside}
-use Rattle.frame.specs.declared.Header.the-variants.{Sent}
+use Rattle.frame.specs.declared.Header.the-variants.{Sender}
 use Rattle.frame.specs.Packet.{sizeIn, sizeFits}
 use Rattle.frame.proofs.FirstBytes.{short, other-version, other-type, other-length, padded, sent}
 use borrow.Author.Needs.{needs}
@@ -67,7 +67,7 @@ returns-6 : tie.Need-returns-6
 returns-6 c =
     let t = c .before .before .before .before .before in
     let s = t .before .before .before .before .before .before .args .s .now in
-    ap₂ Sent (c .u32-at .ensures ∙ u32-inside s 4 (omega arith)) (size (c .before .before .before .before))
+    ap₂ Sender (c .u32-at .ensures ∙ u32-inside s 4 (omega arith)) (size (c .before .before .before .before))
     ∙ sent _ s (t .before .before .before .before .if1 .left) (t .before .before .if2 .left) (t .if3 .left) (sym (fits (c .before .before .before)) ∙ not-false (c .before .before .before .size-fits .result) (c .before .before .if4 .left)) (c .before .if5 .left)
 
 pub read-header-spec : {M : Type 1} → statement M

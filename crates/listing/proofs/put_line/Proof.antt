@@ -19,7 +19,7 @@ shared-slice-read-put-block : tie.Need-shared-slice-read-put-block
 shared-slice-read-put-block c = omega (arith, line-some _ _ _ (c .before .before .before .before .before .before .before .pre .0) (c .before .before .before .before .block-at .ensures .0))
 
 sub-put-block : tie.Need-sub-put-block
-sub-put-block c = line-some _ _ _ (c .before .before .before .before .before .before .before .pre .0) (c .before .before .before .before .block-at .ensures .0)
+sub-put-block c = omega (arith, line-some _ _ _ (c .before .before .before .before .before .before .before .pre .0) (c .before .before .before .before .block-at .ensures .0))
 
 put-block-requires : tie.Need-put-block-requires
 put-block-requires c κs = search needs

@@ -25,7 +25,7 @@ add-t10 : tie.Need-add-t10
 add-t10 c = omega (arith, located-fits _ _ _ _ _ (here (c .before .before)) (c .before .if1 .taken))
 
 sub-t12 : tie.Need-sub-t12
-sub-t12 c = located-some _ _ _ _ _ (here (c .before .before)) (c .before .if1 .taken) _ (c .block-at .ensures .0)
+sub-t12 c = omega (arith, located-some _ _ _ _ _ (here (c .before .before)) (c .before .if1 .taken) _ (c .block-at .ensures .0))
 
 returns : tie.Need-returns
 returns c = located-part _ _ _ _ _ (here (c .before .before)) (c .before .if1 .taken) _ (c .block-at .ensures .0)

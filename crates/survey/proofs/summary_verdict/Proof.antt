@@ -3,7 +3,7 @@ use mathlib.Core.Path.{_≡_, sym, _∙_}
 use mathlib.Core.Bool.{true}
 use borrow.Author.Tests.{eq-eqb, ne-eqb, not-true, not-false}
 use Rattle.wire.specs.BigEndian.{u16At}
-use Rattle.block.specs.Reading.{flagGood, summaryGood}
+use Rattle.block.specs.Reading.{flagGood, ratesGood}
 use borrow.Author.Needs.{needs}
 use Rattle.survey.proofs.summary_verdict.Statement.{statement}
 use Rattle.survey.proofs.summary_verdict.Tie as tie
@@ -21,8 +21,8 @@ returns-2 c = rw (eq-eqb _ _ (c .before .before .if1 .left), sym (c .before .fla
 flag : (c : tie.Else2) → flagGood (c .before .before .before .before .args .flag) ≡ true
 flag c = sym (c .before .flag-good .ensures) ∙ not-false (c .before .flag-good .result) (c .if2 .left)
 
-rates : (c : tie.After-summary-good) → summaryGood (c .before .before .before .before .before .before .before .args .flag) (u16At (c .before .before .before .before .before .before .before .args .bytes .now) 8) (u16At (c .before .before .before .before .before .before .before .args .bytes .now) 10) ≡ c .summary-good .result
-rates c = sym (c .summary-good .ensures ∙ rw (c .before .before .u16-at .ensures, c .before .u16-at2 .ensures))
+rates : (c : tie.After-rates-good) → ratesGood (u16At (c .before .before .before .before .before .before .before .args .bytes .now) 8) (u16At (c .before .before .before .before .before .before .before .args .bytes .now) 10) ≡ c .rates-good .result
+rates c = sym (c .rates-good .ensures ∙ rw (c .before .before .u16-at .ensures, c .before .u16-at2 .ensures))
 
 u16-at-requires : tie.Need-u16-at-requires
 u16-at-requires c κs = search needs
@@ -30,14 +30,14 @@ u16-at-requires c κs = search needs
 u16-at-requires-2 : tie.Need-u16-at-requires-2
 u16-at-requires-2 c κs = search needs
 
-summary-good-requires : tie.Need-summary-good-requires
-summary-good-requires c κs = search needs
+rates-good-requires : tie.Need-rates-good-requires
+rates-good-requires c κs = search needs
 
 returns-3 : tie.Need-returns-3
-returns-3 c = rw (eq-eqb _ _ (c .before .before .before .before .before .before .if1 .left), flag (c .before .before .before .before), rates (c .before) ∙ not-true (c .before .summary-good .result) (c .if3 .taken))
+returns-3 c = rw (eq-eqb _ _ (c .before .before .before .before .before .before .if1 .left), flag (c .before .before .before .before), rates (c .before) ∙ not-true (c .before .rates-good .result) (c .if3 .taken))
 
 returns-4 : tie.Need-returns-4
-returns-4 c = rw (eq-eqb _ _ (c .before .before .before .before .before .before .if1 .left), flag (c .before .before .before .before), rates (c .before) ∙ not-false (c .before .summary-good .result) (c .if3 .left))
+returns-4 c = rw (eq-eqb _ _ (c .before .before .before .before .before .before .if1 .left), flag (c .before .before .before .before), rates (c .before) ∙ not-false (c .before .rates-good .result) (c .if3 .left))
 
 pub summary-verdict-spec : {M : Type 1} → statement M
 summary-verdict-spec =
@@ -48,6 +48,6 @@ summary-verdict-spec =
     returns-2
     u16-at-requires
     u16-at-requires-2
-    summary-good-requires
+    rates-good-requires
     returns-3
     returns-4)
