@@ -43,3 +43,7 @@ block-bytes s at h =
         ap (drop 4) (take-add 4 (bodyLength s at) (drop at s))
         ∙ drop-at (take 4 (drop at s)) (take (bodyLength s at) (drop 4 (drop at s))) 4 front
         ∙ ap (take (bodyLength s at)) (drop-drop 4 at s)
+
+-- the part that was handed out leads to the next block
+pub block-next : (s : List ℕ) (at : ℕ) (bytes : List ℕ) → nextAt s at ≤ length s → bytes ≡ blockAt s at → at + length bytes ≡ nextAt s at
+block-next s at bytes h b = omega (arith, ap length b, block-bytes s at h .long)

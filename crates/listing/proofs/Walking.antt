@@ -62,9 +62,6 @@ module _ (s table : List ℕ) where
     pub walk-fits : nextAt s at ≤ length s
     walk-fits = first-of s at (length s) (w .left) h (w .frames) .fits
 
-    pub walk-long : (bytes : List ℕ) → bytes ≡ blockAt s at → at + length bytes ≡ nextAt s at
-    walk-long bytes b = let l = block-bytes s at walk-fits .long in let e = ap length b in omega arith
-
     pub walk-room : 2 * k + 2 ≤ length table
     walk-room = let e = sym (length-drop (2 * k) table) ∙ ap length here in omega arith
 
@@ -112,9 +109,6 @@ line-text s at k v bytes own read fits b is o j =
     let long = facts .long in
     let size : length (blockAt s at) - 4 ≡ bodyLength s at = omega arith in
     rw (j, o, b, facts .kind, size, read-at s at fits, judged-is (blocksOf s) (entryAt s at) v is)
-
-pub line-some : (s : List ℕ) (at : ℕ) (bytes : List ℕ) → nextAt s at ≤ length s → bytes ≡ blockAt s at → 4 ≤ length bytes
-line-some s at bytes fits b = let long = block-bytes s at fits .long in rw b (omega arith)
 
 pub line-fits : (s : List ℕ) (at k : ℕ) → length (lineAt s at k) ≤ lineRoom
 unfolding lineAt

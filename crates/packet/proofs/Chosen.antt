@@ -64,9 +64,6 @@ module _ (s : List ℕ) (k sender count at : ℕ) (o : Here Extent·Whole s k se
 
     -- the bytes of the block, read and judged; and where its body lies
     module _ (bytes : List ℕ) (b : bytes ≡ blockAt s at) where
-      pub located-some : 4 ≤ length bytes
-      located-some = let l = block-bytes s at located-fits .long in rw b (omega arith)
-
       pub located-answer : (own answer : BlockRead) → own ≡ readBytes bytes → answer ≡ judged (blocksOf s) own → Found (getD bytes 0 0) answer ≡ blockOf (packetOf s) k
       located-answer own answer r j =
           rw (j, r, b, block-bytes s at located-fits .kind, read-at s at located-fits) located-read

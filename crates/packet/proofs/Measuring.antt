@@ -10,7 +10,7 @@ use lib.ListN.{length}
 use Rattle.block.specs.Reading.{readBytes, measuresOf}
 use Rattle.frame.specs.Frames.{Entry, whole, nextAt, entryAt, blockAt, framesIn, firstBlock}
 use Rattle.frame.proofs.Stepping.{first-of, at-end}
-use Rattle.frame.proofs.Blocks.{block-bytes}
+use Rattle.frame.proofs.Blocks.{block-bytes, block-next}
 use Rattle.packet.specs.Blocks.{readAlone, names, measures, measured}
 use Rattle.packet.specs.Steps.{blocksOf, WholeBlocks}
 
@@ -40,9 +40,6 @@ module _ (s : List ℕ) (source at : ℕ) (r : Search s source at) where
     here : (t : Bool) (bytes : List ℕ) → bytes ≡ blockAt s at → t ≡ names (measuresOf (readBytes bytes)) source → t ≡ measures source (entryAt s at)
     here t bytes b m = m ∙ ap (λ (x : List ℕ). names (measuresOf (readBytes x)) source) b ∙ ap (λ a. names (measuresOf a) source) (read-at s at search-fits)
 
-    pub search-long : (bytes : List ℕ) → bytes ≡ blockAt s at → at + length bytes ≡ nextAt s at
-    search-long bytes b = let l = block-bytes s at search-fits .long in let e = ap length b in omega arith
-
     pub search-found : (t : Bool) (bytes : List ℕ) → bytes ≡ blockAt s at → t ≡ names (measuresOf (readBytes bytes)) source → t ≡ true → true ≡ measured source (blocksOf s)
     unfolding measured
     search-found t bytes b m y =
@@ -55,7 +52,7 @@ module _ (s : List ℕ) (source at : ℕ) (r : Search s source at) where
     search-on t bytes b m n =
         let f = first-of s at (length s) (r .left) h (r .frames) in
         let is : measures source (entryAt s at) ≡ false = sym (here t bytes b m) ∙ n in
-        rw (search-long bytes b) (record { left = f .rest; frames = f .after; same = r .same ∙ ap (measured source) (f .first) ∙ rw is })
+        rw (block-next s at bytes search-fits b) (record { left = f .rest; frames = f .after; same = r .same ∙ ap (measured source) (f .first) ∙ rw is })
 
   pub search-end : length s ≤ at → false ≡ measured source (blocksOf s)
   unfolding measured

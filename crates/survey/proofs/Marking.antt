@@ -10,7 +10,7 @@ use lib.ListN.{length, getD, take, drop, set, length-append, length-set}
 use lib.Seq.{take-set-le, drop-set-add, drop-cons, set-at, append-snoc}
 use Rattle.frame.specs.Frames.{Entry, whole, nextAt, entryAt, blockAt, framesIn, firstBlock}
 use Rattle.frame.proofs.Stepping.{first-of, at-end}
-use Rattle.frame.proofs.Blocks.{block-bytes}
+use Rattle.frame.proofs.Blocks.{block-next}
 use Rattle.block.specs.Reading.{readBytes, measuresOf}
 use Rattle.block.specs.declared.BlockRead.{BlockRead}
 use Rattle.packet.specs.Blocks.{readAlone, names, measures, measured, judged, readIn}
@@ -78,12 +78,6 @@ module _ (s old : List ℕ) (count : ℕ) (room : Room s old count) where
     pub mark-fits : at < length s → nextAt s at ≤ length s
     mark-fits h = first-of s at (length s) (m .left) h (m .frames) .fits
 
-    pub mark-some : at < length s → (bytes : List ℕ) → bytes ≡ blockAt s at → 4 ≤ length bytes
-    mark-some h bytes b = let l = block-bytes s at (mark-fits h) .long in let e = ap length b in omega arith
-
-    pub mark-long : at < length s → (bytes : List ℕ) → bytes ≡ blockAt s at → at + length bytes ≡ nextAt s at
-    mark-long h bytes b = let l = block-bytes s at (mark-fits h) .long in let e = ap length b in omega arith
-
     pub mark-room : at < length s → (i < 2 * count) × (k < count)
     mark-room h =
         let one = ap length (first-of s at (length s) (m .left) h (m .frames) .first) in
@@ -98,7 +92,7 @@ module _ (s old : List ℕ) (count : ℕ) (room : Room s old count) where
     mark-on h bytes b v j r new grow =
         let alone : readBytes bytes ≡ readAlone (entryAt s at) = ap readBytes b ∙ read-at s at (mark-fits h) in
         let is : v ≡ verdictOf (readIn [] (entryAt s at)) = j ∙ ap (λ (a : BlockRead). verdictOf (judged [] a)) alone in
-        let e = mark-long h bytes b in
+        let e = block-next s at bytes (mark-fits h) b in
         let same-source : (x : ℕ) → names (measuresOf (readBytes bytes)) x ≡ measures x (entryAt s at) = λ x. ap (λ (a : BlockRead). names (measuresOf a) x) alone in
         let first = first-of s at (length s) (m .left) h (m .frames) in
         let within = mark-room h in

@@ -4,8 +4,9 @@ use mathlib.Core.Path.{_≡_, refl, _∙_}
 use native.Mathlib.Omega.{arith}
 use lib.ListN.{length}
 use Rattle.frame.specs.Frames.{nextAt}
+use Rattle.frame.proofs.Blocks.{block-next}
 use Rattle.text.proofs.Joined.{keeps-length, put-inside}
-use Rattle.listing.proofs.Walking.{Walk, walk-start, walk-fits, walk-long, walk-room, walk-verdict, walk-next}
+use Rattle.listing.proofs.Walking.{Walk, walk-start, walk-fits, walk-room, walk-verdict, walk-next}
 use borrow.Author.Needs.{needs}
 use Rattle.listing.proofs.list_blocks.Statement.{statement}
 use Rattle.listing.proofs.list_blocks.Tie as tie
@@ -24,7 +25,7 @@ fits : (c : tie.In-loop Inv-loop μ-loop) → nextAt (c .before .before .before 
 fits c = walk-fits _ _ _ _ (c .before .loop .inv .0) (omega arith)
 
 next : (c : tie.After-block-at Inv-loop μ-loop) → c .before .before .before .before .before .before .before .before .before .loop .at + length (c .block-at .result .now) ≡ nextAt (c .before .before .before .before .before .before .before .before .before .before .before .before .before .before .before .before .before .before .args .s .now) (c .before .before .before .before .before .before .before .before .before .loop .at)
-next c = walk-long _ _ _ _ (c .before .before .before .before .before .before .before .before .before .loop .inv .0) (omega (arith, c .before .before .before .before .before .before .before .before)) _ (c .block-at .ensures .0)
+next c = block-next _ _ _ (walk-fits _ _ _ _ (c .before .before .before .before .before .before .before .before .before .loop .inv .0) (omega (arith, c .before .before .before .before .before .before .before .before))) (c .block-at .ensures .0)
 
 u32-at-requires : tie.Need-u32-at-requires Inv-loop μ-loop
 u32-at-requires c κs = search needs

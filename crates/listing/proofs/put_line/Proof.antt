@@ -1,7 +1,8 @@
 -- `listing::put_line` meets its contract. Assumes nothing.
 use native.Mathlib.Omega.{arith}
+use Rattle.frame.proofs.Blocks.{block-next}
 use Rattle.text.proofs.Joined.{same-text}
-use Rattle.listing.proofs.Walking.{line-text, line-some, line-fits, added}
+use Rattle.listing.proofs.Walking.{line-text, line-fits, added}
 use borrow.Author.Needs.{needs}
 use Rattle.listing.proofs.put_line.Statement.{statement}
 use Rattle.listing.proofs.put_line.Tie as tie
@@ -16,10 +17,10 @@ judged-requires : tie.Need-judged-requires
 judged-requires c κs = search needs
 
 shared-slice-read-put-block : tie.Need-shared-slice-read-put-block
-shared-slice-read-put-block c = omega (arith, line-some _ _ _ (c .before .before .before .before .before .before .before .pre .0) (c .before .before .before .before .block-at .ensures .0))
+shared-slice-read-put-block c = omega (arith, block-next _ _ _ (c .before .before .before .before .before .before .before .pre .0) (c .before .before .before .before .block-at .ensures .0))
 
 sub-put-block : tie.Need-sub-put-block
-sub-put-block c = omega (arith, line-some _ _ _ (c .before .before .before .before .before .before .before .pre .0) (c .before .before .before .before .block-at .ensures .0))
+sub-put-block c = omega (arith, block-next _ _ _ (c .before .before .before .before .before .before .before .pre .0) (c .before .before .before .before .block-at .ensures .0))
 
 put-block-requires : tie.Need-put-block-requires
 put-block-requires c κs = search needs

@@ -2,8 +2,9 @@
 use mathlib.Core.Path.{sym, _∙_}
 use native.Mathlib.Omega.{arith}
 use Rattle.frame.specs.declared.Extent.the-variants.{Whole}
+use Rattle.frame.proofs.Blocks.{block-next}
 use Rattle.frame.proofs.Locating.{Here, located, located-bad}
-use Rattle.packet.proofs.Chosen.{blocks-whole, located-some, located-answer, located-absent}
+use Rattle.packet.proofs.Chosen.{blocks-whole, located-fits, located-answer, located-absent}
 use borrow.Author.Needs.{needs}
 use Rattle.packet.proofs.block.Statement.{statement}
 use Rattle.packet.proofs.block.Tie as tie
@@ -22,7 +23,7 @@ here : (c : tie.After-known-told) → Here Whole (c .before .before .before .bef
 here c = located _ _ _ _ _ _ (sym (c .before .before .before .locate .ensures) ∙ c .before .count .given .1)
 
 shared-slice-read-t12 : tie.Need-shared-slice-read-t12
-shared-slice-read-t12 c = omega (arith, located-some _ _ _ _ _ (here (c .before .before .before)) (c .before .before .if1 .taken) _ (c .before .block-at .ensures .0))
+shared-slice-read-t12 c = omega (arith, block-next _ _ _ (located-fits _ _ _ _ _ (here (c .before .before .before)) (c .before .before .if1 .taken)) (c .before .block-at .ensures .0))
 
 read-bytes-requires : tie.Need-read-bytes-requires
 read-bytes-requires c κs = search needs

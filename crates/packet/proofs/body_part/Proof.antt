@@ -2,8 +2,9 @@
 use mathlib.Core.Path.{sym, _∙_}
 use native.Mathlib.Omega.{arith}
 use Rattle.frame.specs.declared.Extent.the-variants.{Whole}
+use Rattle.frame.proofs.Blocks.{block-next}
 use Rattle.frame.proofs.Locating.{Here, located, located-bad}
-use Rattle.packet.proofs.Chosen.{located-fits, located-some, located-part, located-none, no-part}
+use Rattle.packet.proofs.Chosen.{located-fits, located-part, located-none, no-part}
 use borrow.Author.Needs.{needs}
 use Rattle.packet.proofs.body_part.Statement.{statement}
 use Rattle.packet.proofs.body_part.Tie as tie
@@ -25,7 +26,7 @@ add-t10 : tie.Need-add-t10
 add-t10 c = omega (arith, located-fits _ _ _ _ _ (here (c .before .before)) (c .before .if1 .taken))
 
 sub-t12 : tie.Need-sub-t12
-sub-t12 c = omega (arith, located-some _ _ _ _ _ (here (c .before .before)) (c .before .if1 .taken) _ (c .block-at .ensures .0))
+sub-t12 c = omega (arith, block-next _ _ _ (located-fits _ _ _ _ _ (here (c .before .before)) (c .before .if1 .taken)) (c .block-at .ensures .0))
 
 returns : tie.Need-returns
 returns c = located-part _ _ _ _ _ (here (c .before .before)) (c .before .if1 .taken) _ (c .block-at .ensures .0)

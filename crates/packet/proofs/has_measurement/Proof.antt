@@ -2,7 +2,8 @@
 use Prim.Native.Nat.{_-_}
 use native.Mathlib.Omega.{arith}
 use lib.ListN.{length}
-use Rattle.packet.proofs.Measuring.{Search, search-start, search-fits, search-long, search-found, search-on, search-end}
+use Rattle.frame.proofs.Blocks.{block-next}
+use Rattle.packet.proofs.Measuring.{Search, search-start, search-fits, search-found, search-on, search-end}
 use borrow.Author.Needs.{needs}
 use Rattle.packet.proofs.has_measurement.Statement.{statement}
 use Rattle.packet.proofs.has_measurement.Tie as tie
@@ -26,10 +27,10 @@ returns : tie.Need-returns Inv-loop μ-loop
 returns c = search-found _ _ _ (c .before .before .before .before .loop .inv) (omega arith) _ _ (c .before .before .block-at .ensures .0) (c .before .measures .ensures) (c .if1 .taken)
 
 add-at : tie.Need-add-at Inv-loop μ-loop
-add-at c = omega (arith, search-fits _ _ _ (c .before .before .before .before .loop .inv) (omega arith), search-long _ _ _ (c .before .before .before .before .loop .inv) (omega arith) _ (c .before .before .block-at .ensures .0))
+add-at c = omega (arith, search-fits _ _ _ (c .before .before .before .before .loop .inv) (omega arith), block-next _ _ _ (search-fits _ _ _ (c .before .before .before .before .loop .inv) (omega arith)) (c .before .before .block-at .ensures .0))
 
 loop-less : tie.Need-loop-less Inv-loop μ-loop
-loop-less c = omega (arith, search-long _ _ _ (c .before .before .before .before .loop .inv) (omega arith) _ (c .before .before .block-at .ensures .0))
+loop-less c = omega (arith, block-next _ _ _ (search-fits _ _ _ (c .before .before .before .before .loop .inv) (omega arith)) (c .before .before .block-at .ensures .0))
 
 loop-again : tie.Need-loop-again Inv-loop μ-loop
 loop-again c = search-on _ _ _ (c .before .before .before .before .loop .inv) (omega arith) _ _ (c .before .before .block-at .ensures .0) (c .before .measures .ensures) (c .if1 .left)

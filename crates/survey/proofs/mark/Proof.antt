@@ -4,7 +4,8 @@ use mathlib.Core.Path.{_≡_}
 use native.Mathlib.Omega.{arith}
 use lib.ListN.{length, length-set}
 use Rattle.frame.specs.Frames.{nextAt}
-use Rattle.survey.proofs.Marking.{Mark, mark-start, mark-fits, mark-some, mark-long, mark-room, mark-on, mark-end}
+use Rattle.frame.proofs.Blocks.{block-next}
+use Rattle.survey.proofs.Marking.{Mark, mark-start, mark-fits, mark-room, mark-on, mark-end}
 use borrow.Author.Needs.{needs}
 use Rattle.survey.proofs.mark.Statement.{statement}
 use Rattle.survey.proofs.mark.Tie as tie
@@ -29,7 +30,7 @@ room c =
     (omega arith, omega arith)
 
 next : (c : tie.After-block-at Inv-loop μ-loop) → c .before .before .loop .at + length (c .block-at .result .now) ≡ nextAt (c .before .before .before .before .before .args .s .now) (c .before .before .loop .at)
-next c = mark-long _ _ _ (c .before .before .before .before .before .pre) _ _ _ _ (c .before .before .loop .inv) (omega arith) _ (c .block-at .ensures .0)
+next c = block-next _ _ _ (mark-fits _ _ _ (c .before .before .before .before .before .pre) _ _ _ _ (c .before .before .loop .inv) (omega arith)) (c .block-at .ensures .0)
 
 loop-holds : tie.Need-loop-holds Inv-loop μ-loop
 loop-holds c = mark-start _ _ _ (c .before .before .pre)
@@ -44,7 +45,7 @@ mul-out : tie.Need-mul-out Inv-loop μ-loop
 mul-out c = omega (arith, small (c .before))
 
 verdict-unmeasured-requires : tie.Need-verdict-unmeasured-requires Inv-loop μ-loop
-verdict-unmeasured-requires c κs = mark-some _ _ _ (c .before .before .before .before .before .pre) _ _ _ _ (c .before .before .loop .inv) (omega arith) _ (c .block-at .ensures .0)
+verdict-unmeasured-requires c κs = omega (arith, next c)
 
 cast-out-2 : tie.Need-cast-out-2 Inv-loop μ-loop
 cast-out-2 c = omega (arith, c .verdict-unmeasured .ok)
