@@ -29,13 +29,13 @@ moved : (c : List ℕ) (i d : ℕ) → Twenty c → i < cardLength →
 moved c i d t h = let e = decimal-set c i d (rw (t .count) h) in rw (t .count) at e
 
 pub changed-refused : Changed-refused
-changed-refused c s accepted i d within digit other =
-    let g = good c s accepted in
+changed-refused l c s accepted i d within digit other =
+    let g = good l c s accepted in
     let old = digit-range (getD c i 0) (all-at c i (g .digits .each) (rw (g .digits .count) within)) in
     let new = digit-range d digit in
     let m = moved c i d (g .digits) within in
     let leaves = g .leaves in
-    wrong-check (set c i d) (twenty-set c i d (g .digits) digit)
+    wrong-check l (set c i d) (twenty-set c i d (g .digits) digit)
     (λ right. other (let same = cancel (cardLength - suc i) (getD c i 0 - 48) (d - 48) (omega arith) in omega arith))
 
 -- exchanging a lower and a higher digit leaves the remainder only where their weights are the same
@@ -68,11 +68,11 @@ module _ (c : List ℕ) (t : Twenty c) (i j : ℕ) (within-i : i < cardLength) (
       omega arith
 
 pub exchanged-refused : Exchanged-refused
-exchanged-refused c s accepted i j within-i within-j other =
-    wrong-check (exchange c i j) (exchange-twenty c t i j within-i within-j apart) (λ right. split right (decLe (getD c i 0) (getD c j 0)))
+exchanged-refused l c s accepted i j within-i within-j other =
+    wrong-check l (exchange c i j) (exchange-twenty c t i j within-i within-j apart) (λ right. split right (decLe (getD c i 0) (getD c j 0)))
   where
-    g : Good c s
-    g = good c s accepted
+    g : Good l c s
+    g = good l c s accepted
 
     t : Twenty c
     t = g .digits

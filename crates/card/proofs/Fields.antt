@@ -44,7 +44,6 @@ pub record Payload (p : ℕ) (s : Settings) : Type 0 where
   pub batch : p / 10 ^ 10 % 10 ^ 5 ≡ s .batch
   pub threshold : p / 10 ^ 5 % 10 ^ 5 ≡ s .threshold
   pub spacing : p % 10 ^ 5 ≡ s .spacing
-  pub small : p < 10 ^ 18
 
 pub payload-parts : (c : List ℕ) → allDigits c ≡ true → 18 ≤ length c → Payload (decimal (take 18 c)) (settingsOn c)
 unfolding settingsOn

@@ -4,6 +4,7 @@ pub mod Fields
 pub mod Cases
 pub mod RoundTrip
 pub mod Damage
+pub mod Editions
 pub mod Loops
 pub mod Reading
 pub mod Writing

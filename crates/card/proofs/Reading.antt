@@ -1,6 +1,6 @@
 -- The cases of reading a card in the order of the code: each return's answer is what `readCard` says,
 -- from the two numbers that the card's parts are. Assumes nothing.
-use Prim.Native.Nat.{ℕ, _+_, _-_, _*_, _%_, _^_, _<_}
+use Prim.Native.Nat.{ℕ, _+_, _-_, _*_, _/_, _%_, _^_}
 use mathlib.Core.Path.{_≡_, refl, sym, ap, _∙_}
 use mathlib.Core.Bool.{Bool, true, false, and-false}
 use mathlib.Core.List.{List}
@@ -13,13 +13,14 @@ use lib.Seq.{take-all}
 use Rattle.refusal.specs.Answer.{unless}
 use Rattle.refusal.specs.Table.{cardDigits, cardCheck, cardField}
 use Rattle.refusal.proofs.Tests.{and-left, and-right, both}
-use Rattle.settings.specs.Ranges.{inRange, within}
+use Rattle.settings.specs.declared.Settings.{Settings}
+use Rattle.settings.specs.Ranges.{Limits, inRange, within}
 use Rattle.settings.proofs.Bounds.{between}
 use Rattle.card.specs.declared.CardRead.the-variants.{Accepted, Refused}
 use Rattle.card.specs.declared.Parsed.the-variants.{Number, Other}
 use Rattle.card.specs.Decimal.{allDigits, decimal}
 use Rattle.card.specs.Card.{checkMin, checkMax, cardLength, field, settingsOn, twentyDigits, checkRight, checkOf, readCard}
-use Rattle.card.specs.Steps.{numberIn, settingsIn}
+use Rattle.card.specs.Steps.{numberIn}
 use Rattle.card.proofs.Decimal.{all-append}
 use Rattle.card.proofs.Check.{check-range, check-right, check-only}
 use Rattle.card.proofs.Fields.{payload-parts}
@@ -51,17 +52,17 @@ is-other s h = go (allDigits s) refl h
     go true e h = let z : _≡_ {A = ℕ} 0 1 = cc in absurd (omega arith)
     go false e h = e
 
-pub wrong-length : (c : List ℕ) → (length c ≡ cardLength → ⊥) → Refused cardDigits ≡ readCard c
+pub wrong-length : (l : Limits) (c : List ℕ) → (length c ≡ cardLength → ⊥) → Refused cardDigits ≡ readCard l c
 unfolding readCard twentyDigits
-wrong-length c h = rw (ne-eqb (length c) cardLength h)
+wrong-length l c h = rw (ne-eqb (length c) cardLength h)
 
 -- one part with another byte is enough
-not-digits : (c : List ℕ) → allDigits c ≡ false → Refused cardDigits ≡ readCard c
+not-digits : (l : Limits) (c : List ℕ) → allDigits c ≡ false → Refused cardDigits ≡ readCard l c
 unfolding readCard twentyDigits
-not-digits c h = rw (h, and-false (eqb (length c) cardLength))
+not-digits l c h = rw (h, and-false (eqb (length c) cardLength))
 
-pub part-other : (c part : List ℕ) → (allDigits c ≡ true → allDigits part ≡ true) → numberIn part ≡ Other → Refused cardDigits ≡ readCard c
-part-other c part each h = not-digits c (go (allDigits c) refl)
+pub part-other : (l : Limits) (c part : List ℕ) → (allDigits c ≡ true → allDigits part ≡ true) → numberIn part ≡ Other → Refused cardDigits ≡ readCard l c
+part-other l c part each h = not-digits l c (go (allDigits c) refl)
   where
     go : (b : Bool) → allDigits c ≡ b → allDigits c ≡ false
     go true e = let t = each e in let f = is-other part h in cc
@@ -84,14 +85,16 @@ split c p k l front back =
       check = b .value ∙ ap decimal (sym (take-all 2 (drop 18 c) (rw (length-drop, l) (omega arith))));
     }
 
-module _ (c : List ℕ) (p k : ℕ) (s : Split c p k) where
+-- the settings that a payload holds
+abbrev settingsIn : ℕ → Settings
+settingsIn p =
+    record { gmin = p / 10 ^ 15; batch = p / 10 ^ 10 % 10 ^ 5; threshold = p / 10 ^ 5 % 10 ^ 5; spacing = p % 10 ^ 5 }
+
+module _ (l : Limits) (c : List ℕ) (p k : ℕ) (s : Split c p k) where
   settings-in : settingsIn p ≡ settingsOn c
   settings-in =
-      let e = rw (← s .payload) at (payload-parts c (s .digits .each) (let l = s .digits .count in omega arith)) in
+      let e = rw (← s .payload) at (payload-parts c (s .digits .each) (let n = s .digits .count in omega arith)) in
       settings-eq (settingsIn p) (settingsOn c) (e .gmin) (e .batch) (e .threshold) (e .spacing)
-
-  small : p < 10 ^ 18
-  small = rw (s .payload) (payload-parts c (s .digits .each) (let l = s .digits .count in omega arith) .small)
 
   sum : decimal c ≡ p * 100 + k
   sum = rw (s .payload, s .check) (whole-decimal c (s .digits))
@@ -117,14 +120,14 @@ module _ (c : List ℕ) (p k : ℕ) (s : Split c p k) where
           absurd (h (check-only p k (omega arith) (omega arith) (rw (← sum) one)))
       go false e = e
 
-  pub check-wrong : (k ≡ checkOf p → ⊥) → Refused cardCheck ≡ readCard c
+  pub check-wrong : (k ≡ checkOf p → ⊥) → Refused cardCheck ≡ readCard l c
   unfolding readCard
   check-wrong h = rw (is-twenty c (s .digits), wrong h)
 
-  pub out-of-range : k ≡ checkOf p → inRange (settingsIn p) ≡ false → Refused cardField ≡ readCard c
+  pub out-of-range : k ≡ checkOf p → inRange l (settingsIn p) ≡ false → Refused cardField ≡ readCard l c
   unfolding readCard
   out-of-range h r = rw (is-twenty c (s .digits), right h, ← settings-in, r)
 
-  pub accepted : k ≡ checkOf p → inRange (settingsIn p) ≡ true → Accepted (settingsIn p) ≡ readCard c
+  pub accepted : k ≡ checkOf p → inRange l (settingsIn p) ≡ true → Accepted (settingsIn p) ≡ readCard l c
   unfolding readCard
   accepted h r = rw (is-twenty c (s .digits), right h, ← settings-in, r)

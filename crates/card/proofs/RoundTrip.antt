@@ -77,7 +77,7 @@ card-check s =
 
 pub read-written : Read-written
 unfolding readCard
-read-written s h = rw (is-twenty (cardOf s) (card-twenty s), card-check s, settings-back s (in-range-fits s h), h)
+read-written l f s h = rw (is-twenty (cardOf s) (card-twenty s), card-check s, settings-back s (in-range-fits l f s h), h)
 
 -- an accepted card's payload and check, back from the settings
 module _ (c : List ℕ) (t : Twenty c) where
@@ -98,8 +98,8 @@ module _ (c : List ℕ) (t : Twenty c) where
 
 pub written-read : Written-read
 unfolding cardOf
-written-read c s h =
-    let g = good c s h in
+written-read l c s h =
+    let g = good l c s h in
     let t = g .digits in
     let e = whole-decimal c t in
     let leaves = g .leaves in

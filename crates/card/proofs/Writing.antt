@@ -12,7 +12,7 @@ use Rattle.refusal.specs.Table.{setting, bufferShort}
 use Rattle.refusal.specs.declared.Written.{Written}
 use Rattle.refusal.specs.declared.Written.the-variants.{Size, Refused}
 use Rattle.settings.specs.declared.Settings.{Settings}
-use Rattle.settings.specs.Ranges.{inRange}
+use Rattle.settings.specs.Ranges.{Limits, inRange}
 use Rattle.card.specs.Decimal.{digits}
 use Rattle.card.specs.Card.{cardLength, checkOf, cardOf, writeCard}
 use Rattle.card.specs.Steps.{Fits, numberOf}
@@ -20,16 +20,16 @@ use Rattle.card.proofs.Decimal.{length-digits}
 use Rattle.card.proofs.Fields.{payload-digits, payload-decimal}
 
 -- a call's answer and buffer are what the promise says
-abbrev Promised : Settings → List ℕ → Written → List ℕ → Type 0
-Promised s buffer answer out = (answer ≡ writeCard s buffer) × (out ≡ after (writeCard s buffer) (cardOf s) buffer)
+abbrev Promised : Limits → Settings → List ℕ → Written → List ℕ → Type 0
+Promised l s buffer answer out = (answer ≡ writeCard l s buffer) × (out ≡ after (writeCard l s buffer) (cardOf s) buffer)
 
-pub bad-setting : (s : Settings) (buffer : List ℕ) → inRange s ≡ false → Promised s buffer (Refused setting) buffer
+pub bad-setting : (l : Limits) (s : Settings) (buffer : List ℕ) → inRange l s ≡ false → Promised l s buffer (Refused setting) buffer
 unfolding writeCard
-bad-setting s buffer h = (rw h, rw h)
+bad-setting l s buffer h = (rw h, rw h)
 
-pub too-short : (s : Settings) (buffer : List ℕ) → inRange s ≡ true → length buffer < cardLength → Promised s buffer (Refused bufferShort) buffer
+pub too-short : (l : Limits) (s : Settings) (buffer : List ℕ) → inRange l s ≡ true → length buffer < cardLength → Promised l s buffer (Refused bufferShort) buffer
 unfolding writeCard
-too-short s buffer h l = (rw (h, lt-leb cardLength (length buffer) l), rw (h, lt-leb cardLength (length buffer) l))
+too-short l s buffer h short = (rw (h, lt-leb cardLength (length buffer) short), rw (h, lt-leb cardLength (length buffer) short))
 
 -- the digits of the payload, then those of the check
 two-parts : (buffer front out p k : List ℕ) → length p ≡ 18 → length k ≡ 2 →
@@ -40,12 +40,12 @@ two-parts buffer front out p k lp lk f o =
     let rest : drop 20 front ≡ drop 20 buffer = sym (drop-drop 2 18 front) ∙ ap (drop 2) after-first ∙ drop-drop 2 18 buffer in
     o ∙ rw (first, rest)
 
-pub wrote : (s : Settings) (buffer front out : List ℕ) (p k : ℕ) → inRange s ≡ true → Fits s → cardLength ≤ length buffer →
+pub wrote : (l : Limits) (s : Settings) (buffer front out : List ℕ) (p k : ℕ) → inRange l s ≡ true → Fits s → cardLength ≤ length buffer →
     p ≡ numberOf s → k ≡ checkOf p →
     front ≡ take 0 buffer ++ digits 18 p ++ drop 18 buffer → out ≡ take 18 front ++ digits 2 k ++ drop 20 front →
-    Promised s buffer (Size cardLength) out
+    Promised l s buffer (Size cardLength) out
 unfolding writeCard cardOf
-wrote s buffer front out p k h fits l n m f o =
-    let answer : Size cardLength ≡ writeCard s buffer = rw (h, le-leb cardLength (length buffer) l) in
+wrote l s buffer front out p k h fits room n m f o =
+    let answer : Size cardLength ≡ writeCard l s buffer = rw (h, le-leb cardLength (length buffer) room) in
     let card : digits 18 p ++ digits 2 k ≡ cardOf s = rw (m, n, payload-digits s fits, payload-decimal s fits) in
     (answer, rw (← answer, ← card) (two-parts buffer front out (digits 18 p) (digits 2 k) (length-digits 18 p) (length-digits 2 k) f o))

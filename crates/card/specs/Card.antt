@@ -10,7 +10,7 @@ use Rattle.refusal.specs.Table.{cardDigits, cardCheck, cardField, setting, buff
 use Rattle.refusal.specs.Answer.{unless}
 use Rattle.refusal.specs.declared.Written.{Written}
 use Rattle.refusal.specs.declared.Written.the-variants.{Size, Refused as Written·Refused}
-use Rattle.settings.specs.Ranges.{within, inRange}
+use Rattle.settings.specs.Ranges.{Limits, within, inRange}
 use Rattle.settings.specs.declared.Settings.{Settings}
 use Rattle.card.specs.declared.CardRead.{CardRead}
 use Rattle.card.specs.declared.CardRead.the-variants.{Accepted, Refused}
@@ -41,11 +41,11 @@ unfoldable pub checkRight : List ℕ → Bool
 checkRight s = eqb (decimal s % 97) 1 && within checkMin (field 18 2 s) checkMax
 
 -- Reading, with the order line "Cards: 11, 12, 13".
-unfoldable pub readCard : List ℕ → CardRead
-readCard s =
+unfoldable pub readCard : Limits → List ℕ → CardRead
+readCard l s =
     unless (twentyDigits s) (Refused cardDigits)
     (unless (checkRight s) (Refused cardCheck)
-    (unless (inRange (settingsOn s)) (Refused cardField)
+    (unless (inRange l (settingsOn s)) (Refused cardField)
     (Accepted (settingsOn s))))
 
 -- the digits before the check
@@ -60,8 +60,8 @@ unfoldable pub cardOf : Settings → List ℕ
 cardOf s = payload s ++ digits 2 (checkOf (decimal (payload s)))
 
 -- Writing, with the order line "writing a card: 15, then 8".
-unfoldable pub writeCard : Settings → List ℕ → Written
-writeCard s buffer =
-    unless (inRange s) (Written·Refused setting)
+unfoldable pub writeCard : Limits → Settings → List ℕ → Written
+writeCard l s buffer =
+    unless (inRange l s) (Written·Refused setting)
     (unless (leb cardLength (length buffer)) (Written·Refused bufferShort)
     (Size cardLength))

@@ -1,5 +1,5 @@
 -- What the steps of reading and writing a card compute, for the contracts of the private functions.
-use Prim.Native.Nat.{ℕ, _+_, _*_, _/_, _%_, _^_, _<_}
+use Prim.Native.Nat.{ℕ, _+_, _*_, _^_, _<_}
 use mathlib.Core.List.{List}
 use Rattle.refusal.specs.Answer.{unless}
 use Rattle.settings.specs.declared.Settings.{Settings}
@@ -21,8 +21,3 @@ pub record Fits (s : Settings) : Type 0 where
 -- the digits before the check, as one number
 abbrev pub numberOf : Settings → ℕ
 numberOf s = ((s .gmin * 10 ^ 5 + s .batch) * 10 ^ 5 + s .threshold) * 10 ^ 5 + s .spacing
-
--- the settings that a payload holds
-abbrev pub settingsIn : ℕ → Settings
-settingsIn p =
-    record { gmin = p / 10 ^ 15; batch = p / 10 ^ 10 % 10 ^ 5; threshold = p / 10 ^ 5 % 10 ^ 5; spacing = p % 10 ^ 5 }

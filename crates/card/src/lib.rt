@@ -11,6 +11,7 @@ ghost use mathlib.Core.List.{_++_};
 ghost use Prim.Native.Nat.{_-_, _≤_};
 ghost use lib.ListN.{length, take, drop};
 ghost use Rattle.refusal.specs.Answer.{after};
+ghost use Rattle.settings.specs.Ranges.{limits};
 ghost use Rattle.card.specs.Decimal.{isDigit, digits};
 ghost use Rattle.card.specs.Steps.{numberIn, numberOf, Fits};
 ghost use Rattle.card.specs.Card.{checkOf, readCard, cardOf, writeCard};
@@ -27,7 +28,7 @@ const PAYLOAD_LENGTH: usize = 18;
 
 // The settings on a card.
 pub fn read(card: &[u8]) -> CardRead
-    ensures { λ r. ⌜ r ≡ readCard (now (card .entry)) ⌝ }
+    ensures { λ r. ⌜ r ≡ readCard limits (now (card .entry)) ⌝ }
 {
     if card.len() != CARD_LENGTH {
         return CardRead::Refused(refusal::CARD_DIGITS);
@@ -55,8 +56,8 @@ pub fn read(card: &[u8]) -> CardRead
 
 // Writes the card of the settings into the front of out.
 pub fn write(s: Settings, out: &mut [u8]) -> Written
-    ensures answer { λ r. ⌜ r ≡ writeCard s (now (out .entry)) ⌝ }
-    ensures buffer { λ r. ⌜ now (out .exit) ≡ after (writeCard s (now (out .entry))) (cardOf s) (now (out .entry)) ⌝ }
+    ensures answer { λ r. ⌜ r ≡ writeCard limits s (now (out .entry)) ⌝ }
+    ensures buffer { λ r. ⌜ now (out .exit) ≡ after (writeCard limits s (now (out .entry))) (cardOf s) (now (out .entry)) ⌝ }
 {
     if !settings::in_range(s) {
         return Written::Refused(refusal::SETTING);

@@ -6,6 +6,7 @@ use refusal::Refusal;
 use settings::Settings;
 ghost use mathlib.Core.Path.{_≡_};
 ghost use Rattle.refusal.specs.Answer.{after};
+ghost use Rattle.settings.specs.Ranges.{limits};
 ghost use Rattle.card.specs.Card.{readCard, cardOf, writeCard};
 ghost use Rattle.ffi_answer.specs.Answers.{writtenOut};
 ghost use Rattle.ffi_card.specs.Answers.{cardOut};
@@ -44,7 +45,7 @@ pub fn card_out(c: CardRead) -> Card
 // and nothing else in the buffer. Refusals, in this order: 11, 12, 13.
 #[no_mangle]
 pub extern "C" fn nuvaskoe_card_read(card: &[u8]) -> Card
-    ensures { λ r. ⌜ r ≡ cardOut (readCard (now (card .entry))) ⌝ }
+    ensures { λ r. ⌜ r ≡ cardOut (readCard limits (now (card .entry))) ⌝ }
 {
     card_out(card::read(card))
 }
@@ -53,8 +54,8 @@ pub extern "C" fn nuvaskoe_card_read(card: &[u8]) -> Card
 // A good write answers size 20. Refusals, in this order: 15, 8.
 #[no_mangle]
 pub extern "C" fn nuvaskoe_card_write(settings: Settings, out: &mut [u8]) -> WrittenSize
-    ensures answer { λ r. ⌜ r ≡ writtenOut (writeCard settings (now (out .entry))) ⌝ }
-    ensures buffer { λ r. ⌜ now (out .exit) ≡ after (writeCard settings (now (out .entry))) (cardOf settings) (now (out .entry)) ⌝ }
+    ensures answer { λ r. ⌜ r ≡ writtenOut (writeCard limits settings (now (out .entry))) ⌝ }
+    ensures buffer { λ r. ⌜ now (out .exit) ≡ after (writeCard limits settings (now (out .entry))) (cardOf settings) (now (out .entry)) ⌝ }
 {
     ffi_answer::written_out(card::write(settings, out))
 }

@@ -6,7 +6,7 @@ use borrow.Author.Tests.{leb-true}
 use lib.Dec.{leb}
 use Rattle.refusal.proofs.Tests.{and-left, and-right}
 use Rattle.settings.specs.declared.Settings.{Settings}
-use Rattle.settings.specs.Ranges.{gminMin, gminMax, batchMin, batchMax, thresholdMin, thresholdMax, spacingMin, spacingMax, within, burstInRange, batchInRange, inRange}
+use Rattle.settings.specs.Ranges.{gminMin, gminMax, batchMin, thresholdMin, Limits, spacingMin, spacingMax, within, burstInRange, batchInRange, inRange}
 
 pub record Between (low n high : ℕ) : Type 0 where
   pub least : low ≤ n
@@ -35,20 +35,21 @@ pub burst : (gmin spacing : ℕ) → burstInRange gmin spacing ≡ true → Burs
 unfolding burstInRange
 burst gmin spacing h = both gminMin gmin gminMax spacingMin spacing spacingMax h
 
-abbrev pub Batch : ℕ → ℕ → Type 0
-Batch batch threshold = Both batchMin batch batchMax thresholdMin threshold thresholdMax
+module _ (l : Limits) where
+  abbrev pub Batch : ℕ → ℕ → Type 0
+  Batch size threshold = Both batchMin size (l .batch) thresholdMin threshold (l .threshold)
 
-pub batch : (size threshold : ℕ) → batchInRange size threshold ≡ true → Batch size threshold
-unfolding batchInRange
-batch size threshold h = both batchMin size batchMax thresholdMin threshold thresholdMax h
+  pub batch : (size threshold : ℕ) → batchInRange l size threshold ≡ true → Batch size threshold
+  unfolding batchInRange
+  batch size threshold h = both batchMin size (l .batch) thresholdMin threshold (l .threshold) h
 
-pub record All (s : Settings) : Type 0 where
-  pub bursts : Burst (s .gmin) (s .spacing)
-  pub batches : Batch (s .batch) (s .threshold)
+  pub record All (s : Settings) : Type 0 where
+    pub bursts : Burst (s .gmin) (s .spacing)
+    pub batches : Batch (s .batch) (s .threshold)
 
-pub all : (s : Settings) → inRange s ≡ true → All s
-unfolding inRange
-all s h =
-    let b = burstInRange (s .gmin) (s .spacing) in
-    let e = batchInRange (s .batch) (s .threshold) in
-    record { bursts = burst (s .gmin) (s .spacing) (and-left b e h); batches = batch (s .batch) (s .threshold) (and-right b e h) }
+  pub all : (s : Settings) → inRange l s ≡ true → All s
+  unfolding inRange
+  all s h =
+      let b = burstInRange (s .gmin) (s .spacing) in
+      let e = batchInRange l (s .batch) (s .threshold) in
+      record { bursts = burst (s .gmin) (s .spacing) (and-left b e h); batches = batch (s .batch) (s .threshold) (and-right b e h) }

@@ -2,7 +2,7 @@
 // only the settings that it takes, so the ranges are tested in pairs: Gmin and spacing for burst figures,
 // batch and threshold for effective loss and the plan, all four for a card.
 ghost use mathlib.Core.Path.{_≡_};
-ghost use Rattle.settings.specs.Ranges.{within, burstInRange, batchInRange, inRange};
+ghost use Rattle.settings.specs.Ranges.{limits, within, burstInRange, batchInRange, inRange};
 
 // The four settings of a card, and the range of each.
 // C: nuvaskoe_settings
@@ -47,14 +47,14 @@ pub fn burst_in_range(gmin: u32, spacing: u32) -> bool
 // Whether the settings of effective loss and the plan are in their ranges. The threshold's does not
 // depend on the batch.
 pub fn batch_in_range(batch: u32, threshold: u32) -> bool
-    ensures { λ r. ⌜ r ≡ batchInRange batch threshold ⌝ }
+    ensures { λ r. ⌜ r ≡ batchInRange limits batch threshold ⌝ }
 {
     within(BATCH_MIN, batch, BATCH_MAX) & within(THRESHOLD_MIN, threshold, THRESHOLD_MAX)
 }
 
 // Whether all four settings are in their ranges.
 pub fn in_range(s: Settings) -> bool
-    ensures { λ r. ⌜ r ≡ inRange s ⌝ }
+    ensures { λ r. ⌜ r ≡ inRange limits s ⌝ }
 {
     burst_in_range(s.gmin, s.spacing) & batch_in_range(s.batch, s.threshold)
 }

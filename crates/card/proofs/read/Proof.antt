@@ -26,7 +26,7 @@ parts c =
     (sym (c .before .before .before .number2 .ensures ∙ ap numberIn (tail (bytes (c .before .before .before .before .before .before .before .before .before .before .before .before)) 18)) ∙ c .before .check .given .1)
 
 returns : tie.Need-returns
-returns c = wrong-length _ (c .if1 .taken)
+returns c = wrong-length _ _ (c .if1 .taken)
 
 slice-aggregate-number : tie.Need-slice-aggregate-number
 slice-aggregate-number c = sym (length-take-le 18 (bytes (c .before .before .before)) (omega arith))
@@ -41,7 +41,7 @@ enum-told : tie.Need-enum-told
 enum-told c = search needs
 
 returns-2 : tie.Need-returns-2
-returns-2 c = part-other (bytes (c .before .before .before .before .before .before)) (take 18 (bytes (c .before .before .before .before .before .before))) (all-take 18 _) (sym (c .before .before .number .ensures) ∙ c .enum-told .given .1)
+returns-2 c = part-other _ (bytes (c .before .before .before .before .before .before)) (take 18 (bytes (c .before .before .before .before .before .before))) (all-take 18 _) (sym (c .before .before .number .ensures) ∙ c .enum-told .given .1)
 
 sub-number : tie.Need-sub-number
 sub-number c = search needs
@@ -62,13 +62,13 @@ enum-told-2 : tie.Need-enum-told-2
 enum-told-2 c = search needs
 
 returns-3 : tie.Need-returns-3
-returns-3 c = part-other (bytes (c .before .before .before .before .before .before .before .before .before .before .before)) (drop 18 (bytes (c .before .before .before .before .before .before .before .before .before .before .before))) (all-drop 18 _) (sym (c .before .before .number2 .ensures ∙ ap numberIn (tail (bytes (c .before .before .before .before .before .before .before .before .before .before .before)) 18)) ∙ c .enum-told2 .given .1)
+returns-3 c = part-other _ (bytes (c .before .before .before .before .before .before .before .before .before .before .before)) (drop 18 (bytes (c .before .before .before .before .before .before .before .before .before .before .before))) (all-drop 18 _) (sym (c .before .before .number2 .ensures ∙ ap numberIn (tail (bytes (c .before .before .before .before .before .before .before .before .before .before .before)) 18)) ∙ c .enum-told2 .given .1)
 
 check-of-requires : tie.Need-check-of-requires
 check-of-requires c κs = search needs
 
 returns-4 : tie.Need-returns-4
-returns-4 c = check-wrong _ _ _ (parts (c .before .before)) (λ e. c .if2 .taken (e ∙ sym (c .before .check-of .ensures)))
+returns-4 c = check-wrong _ _ _ _ (parts (c .before .before)) (λ e. c .if2 .taken (e ∙ sym (c .before .check-of .ensures)))
 
 cast-t19 : tie.Need-cast-t19
 cast-t19 c = search needs
@@ -86,10 +86,10 @@ in-range-requires : tie.Need-in-range-requires
 in-range-requires c κs = search needs
 
 returns-5 : tie.Need-returns-5
-returns-5 c = out-of-range _ _ _ (parts (c .before .before .before .before)) (c .before .before .if2 .left ∙ c .before .before .before .check-of .ensures) (sym (c .before .in-range .ensures) ∙ not-true (c .before .in-range .result) (c .if3 .taken))
+returns-5 c = out-of-range _ _ _ _ (parts (c .before .before .before .before)) (c .before .before .if2 .left ∙ c .before .before .before .check-of .ensures) (sym (c .before .in-range .ensures) ∙ not-true (c .before .in-range .result) (c .if3 .taken))
 
 returns-6 : tie.Need-returns-6
-returns-6 c = accepted _ _ _ (parts (c .before .before .before .before)) (c .before .before .if2 .left ∙ c .before .before .before .check-of .ensures) (sym (c .before .in-range .ensures) ∙ not-false (c .before .in-range .result) (c .if3 .left))
+returns-6 c = accepted _ _ _ _ (parts (c .before .before .before .before)) (c .before .before .if2 .left ∙ c .before .before .before .check-of .ensures) (sym (c .before .in-range .ensures) ∙ not-false (c .before .in-range .result) (c .if3 .left))
 
 pub read-spec : {M : Type 1} → statement M
 read-spec =
