@@ -3,3 +3,4 @@ pub mod Searching
 pub mod Counting
 pub mod Loops
 pub mod Answering
+pub mod Same

@@ -27,19 +27,19 @@ abbrev pub Meant : (ℕ → Bool) → ℕ → ℕ → First → Type 0
 Meant test n start (At k) = (start ≤ k) × (k < start + n) × (test k ≡ true) × ((i : ℕ) → start ≤ i → i < k → test i ≡ false)
 Meant test n start None = (i : ℕ) → start ≤ i → i < start + n → test i ≡ false
 
--- one more position in front
+-- one more position in front, which does not pass
+none-before : (test : ℕ → Bool) (start end : ℕ) → test start ≡ false → ((i : ℕ) → suc start ≤ i → i < end → test i ≡ false) →
+    (i : ℕ) → start ≤ i → i < end → test i ≡ false
+none-before test start end e later i l h = go (ℕ-discrete i start)
+  where
+    go : Dec (i ≡ start) → test i ≡ false
+    go (yes s) = rw s e
+    go (no s) = later i (omega arith) h
+
 in-front : (test : ℕ → Bool) (n start : ℕ) (x : Bool) (r : First) → test start ≡ x → Meant test n (suc start) r → Meant test (suc n) start (cond x (At start) r)
 in-front test n start true r e m = (omega arith, omega arith, e, λ i l h. absurd (omega arith))
-in-front test n start false (At k) e m = (omega arith, omega arith, m .2, λ i l h. go i l h (ℕ-discrete i start))
-  where
-    go : (i : ℕ) → start ≤ i → i < k → Dec (i ≡ start) → test i ≡ false
-    go i l h (yes s) = rw s e
-    go i l h (no s) = m .3 i (omega arith) h
-in-front test n start false None e m = λ i l h. go i l h (ℕ-discrete i start)
-  where
-    go : (i : ℕ) → start ≤ i → i < start + suc n → Dec (i ≡ start) → test i ≡ false
-    go i l h (yes s) = rw s e
-    go i l h (no s) = m i (omega arith) (omega arith)
+in-front test n start false (At k) e m = (omega arith, omega arith, m .2, none-before test start k e (m .3))
+in-front test n start false None e m = none-before test start (start + suc n) e (λ i l h. m i l (omega arith))
 
 pub meant : (test : ℕ → Bool) (n start : ℕ) → Meant test n start (firstFrom test n start)
 unfolding firstFrom

@@ -17,12 +17,12 @@ abbrev pub lossesIn : (ℕ → Bool) → ℕ → ℕ → ℕ
 lossesIn lost b k = count lost k b
 
 -- batch k is over the threshold: "more than T"
-abbrev pub over : (ℕ → Bool) → ℕ → ℕ → ℕ → Bool
-over lost b t k = ltb t (lossesIn lost b k)
+abbrev pub isOver : (ℕ → Bool) → ℕ → ℕ → ℕ → Bool
+isOver lost b t k = ltb t (lossesIn lost b k)
 
 -- K
 unfoldable pub overCount : (ℕ → Bool) → ℕ → ℕ → ℕ → ℕ
-overCount lost e b t = count (over lost b t) 0 (batches e b)
+overCount lost e b t = count (isOver lost b t) 0 (batches e b)
 
 -- the first of the n positions from k on that passes a test
 unfoldable pub firstFrom : (ℕ → Bool) → ℕ → ℕ → First
@@ -31,4 +31,4 @@ firstFrom test (suc n) k = cond (test k) (At k) (firstFrom test n (suc k))
 
 -- the first batch over the threshold
 unfoldable pub firstOver : (ℕ → Bool) → ℕ → ℕ → ℕ → First
-firstOver lost e b t = firstFrom (over lost b t) (batches e b) 0
+firstOver lost e b t = firstFrom (isOver lost b t) (batches e b) 0

@@ -1,12 +1,9 @@
--- Effective loss of a trace: document 01, "The answer is K, N, the integer part of K × 65535 / N, and it names
--- the first batch whose losses exceed the threshold, or says none." The counted event is a parameter.
+-- Effective loss: document 01, "The answer is K, N, the integer part of K × 65535 / N, and it names the first batch
+-- whose losses exceed the threshold, or says none." The verdict on the input and which packets are lost are parameters.
 use Prim.Native.Nat.{ℕ, _*_, _/_}
 use mathlib.Core.Bool.{Bool}
-use mathlib.Core.List.{List}
-use lib.ListN.{length}
 use Rattle.refusal.specs.Answer.{ifAccepted}
-use Rattle.trace.specs.declared.Event.{Event}
-use Rattle.trace.specs.Trace.{countedIn}
+use Rattle.refusal.specs.declared.Judged.{Judged}
 use Rattle.batch.specs.declared.EffectiveLoss.{EffectiveLoss}
 use Rattle.batch.specs.declared.LossRead.{LossRead}
 use Rattle.batch.specs.declared.LossRead.the-variants.{Loss, Refused}
@@ -29,5 +26,5 @@ lossOf lost e b t =
       first = firstOver lost e b t;
     }
 
-unfoldable pub lossAnswer : Event → List ℕ → ℕ → ℕ → LossRead
-lossAnswer event s b t = ifAccepted (judgedFor s b t) Refused (Loss (lossOf (countedIn event s) (length s) b t))
+unfoldable pub lossAnswer : Judged → (ℕ → Bool) → ℕ → ℕ → ℕ → LossRead
+lossAnswer verdict lost e b t = ifAccepted (judgedFor verdict e b t) Refused (Loss (lossOf lost e b t))

@@ -8,9 +8,9 @@ ghost use Prim.Native.Nat.{_+_, _-_, _≤_};
 ghost use lib.ListN.{length};
 ghost use Rattle.trace.specs.declared.Event.the-variants.{Lost};
 ghost use Rattle.trace.specs.Sum.{bit, count};
-ghost use Rattle.trace.specs.Trace.{countsAs, countedIn, traceMax};
+ghost use Rattle.trace.specs.Trace.{countsAs, countedAt, judged, traceMax};
 ghost use Rattle.batch.specs.Judging.{judgedFor};
-ghost use Rattle.batch.specs.Batches.{batches, lossesIn, over, overCount, firstOver};
+ghost use Rattle.batch.specs.Batches.{batches, lossesIn, isOver, overCount, firstOver};
 ghost use Rattle.batch.specs.Loss.{lossOf, lossAnswer};
 
 // The index of a loss of every batch.
@@ -38,7 +38,7 @@ pub enum LossRead {
 
 // The effective loss of a trace.
 pub fn effective_loss(trace: &[u8], batch: u32, threshold: u32) -> LossRead
-    ensures { λ r. ⌜ r ≡ lossAnswer Lost (now (trace .entry)) batch threshold ⌝ }
+    ensures { λ r. ⌜ r ≡ lossAnswer (judged (now (trace .entry))) (countedAt Lost (now (trace .entry))) (length (now (trace .entry))) batch threshold ⌝ }
 {
     match judge(trace, batch, threshold) {
         Judged::Accepted => {
@@ -50,7 +50,7 @@ pub fn effective_loss(trace: &[u8], batch: u32, threshold: u32) -> LossRead
 
 // Judges the settings, then the trace, then the batch against the trace.
 pub fn judge(trace: &[u8], batch: u32, threshold: u32) -> Judged
-    ensures { λ r. ⌜ r ≡ judgedFor (now (trace .entry)) batch threshold ⌝ }
+    ensures { λ r. ⌜ r ≡ judgedFor (judged (now (trace .entry))) (length (now (trace .entry))) batch threshold ⌝ }
 {
     if !settings::batch_in_range(batch, threshold) {
         return Judged::Refused(refusal::SETTING);
@@ -69,7 +69,7 @@ pub fn judge(trace: &[u8], batch: u32, threshold: u32) -> Judged
 // The effective loss of an accepted trace.
 fn loss_of(event: Event, s: &[u8], batch: usize, threshold: usize) -> EffectiveLoss
     requires { ⌜ (1 ≤ batch) × (batch ≤ length (now s)) × (length (now s) ≤ traceMax) ⌝ }
-    ensures { λ r. ⌜ r ≡ lossOf (countedIn event (now (s .entry))) (length (now (s .entry))) batch threshold ⌝ }
+    ensures { λ r. ⌜ r ≡ lossOf (countedAt event (now (s .entry))) (length (now (s .entry))) batch threshold ⌝ }
 {
     let batches = s.len() - batch + 1;
     let first = first_over(event, s, batch, threshold);
@@ -85,7 +85,7 @@ fn loss_of(event: Event, s: &[u8], batch: usize, threshold: usize) -> EffectiveL
 // The first batch over the threshold: batch by batch, and in a batch packet by packet, until one is known.
 fn first_over(event: Event, s: &[u8], batch: usize, threshold: usize) -> First
     requires { ⌜ (1 ≤ batch) × (batch ≤ length (now s)) ⌝ }
-    ensures { λ r. ⌜ r ≡ firstOver (countedIn event (now (s .entry))) (length (now (s .entry))) batch threshold ⌝ }
+    ensures { λ r. ⌜ r ≡ firstOver (countedAt event (now (s .entry))) (length (now (s .entry))) batch threshold ⌝ }
 {
     let mut found = First::None;
     let mut k = 0;
@@ -107,8 +107,8 @@ fn first_over(event: Event, s: &[u8], batch: usize, threshold: usize) -> First
 
 // How many batches are over the threshold. None before the first is, so they are counted from there.
 fn over_count(event: Event, s: &[u8], batch: usize, threshold: usize, first: First) -> usize
-    requires { ⌜ (1 ≤ batch) × (batch ≤ length (now s)) × (first ≡ firstOver (countedIn event (now s)) (length (now s)) batch threshold) ⌝ }
-    ensures { λ r. ⌜ r ≡ overCount (countedIn event (now (s .entry))) (length (now (s .entry))) batch threshold ⌝ }
+    requires { ⌜ (1 ≤ batch) × (batch ≤ length (now s)) × (first ≡ firstOver (countedAt event (now s)) (length (now s)) batch threshold) ⌝ }
+    ensures { λ r. ⌜ r ≡ overCount (countedAt event (now (s .entry))) (length (now (s .entry))) batch threshold ⌝ }
 {
     match first {
         First::At(k) => over_from(event, s, batch, threshold, k),
@@ -119,7 +119,7 @@ fn over_count(event: Event, s: &[u8], batch: usize, threshold: usize, first: Fir
 // How many batches from batch `start` on are over the threshold.
 fn over_from(event: Event, s: &[u8], batch: usize, threshold: usize, start: usize) -> usize
     requires { ⌜ (1 ≤ batch) × (start + batch ≤ length (now s)) ⌝ }
-    ensures { λ r. ⌜ r ≡ count (over (countedIn event (now (s .entry))) batch threshold) start (batches (length (now (s .entry))) batch - start) ⌝ }
+    ensures { λ r. ⌜ r ≡ count (isOver (countedAt event (now (s .entry))) batch threshold) start (batches (length (now (s .entry))) batch - start) ⌝ }
 {
     let mut n = 0;
     let mut m = start;
@@ -135,7 +135,7 @@ fn over_from(event: Event, s: &[u8], batch: usize, threshold: usize, start: usiz
 // The losses in the batch that begins at packet k.
 fn losses_in(event: Event, s: &[u8], batch: usize, k: usize) -> usize
     requires { ⌜ k + batch ≤ length (now s) ⌝ }
-    ensures { λ r. ⌜ r ≡ lossesIn (countedIn event (now (s .entry))) batch k ⌝ }
+    ensures { λ r. ⌜ r ≡ lossesIn (countedAt event (now (s .entry))) batch k ⌝ }
 {
     let mut n = 0;
     let mut j = 0;

@@ -5,9 +5,12 @@ use ffi_answer::NONE;
 use refusal::Refusal;
 use resend::Planned;
 ghost use mathlib.Core.Path.{_≡_};
+ghost use lib.ListN.{length, take};
 ghost use Rattle.trace.specs.declared.Event.the-variants.{Lost};
+ghost use Rattle.trace.specs.Trace.{countedAt, judged};
 ghost use Rattle.batch.specs.Loss.{lossAnswer};
-ghost use Rattle.resend.specs.Answer.{planAnswer, bufferAfter};
+ghost use Rattle.resend.specs.Plans.{marks, Best};
+ghost use Rattle.resend.specs.Answer.{planAnswer, bufferAfter, Plannable};
 ghost use Rattle.ffi_batch.specs.Answers.{lossOut, marksOut};
 
 // How many batches of a trace are over the threshold. Where refused, all after refusal is 0.
@@ -81,7 +84,7 @@ pub fn marks_out(p: Planned) -> MarkCount
 // The effective loss of a trace.
 #[no_mangle]
 pub extern "C" fn nuvaskoe_effective_loss(trace: &[u8], batch: u32, threshold: u32) -> LossNumbers
-    ensures { λ r. ⌜ r ≡ lossOut (lossAnswer Lost (now (trace .entry)) batch threshold) ⌝ }
+    ensures { λ r. ⌜ r ≡ lossOut (lossAnswer (judged (now (trace .entry))) (countedAt Lost (now (trace .entry))) (length (now (trace .entry))) batch threshold) ⌝ }
 {
     loss_out(batch::effective_loss(trace, batch, threshold))
 }
@@ -96,8 +99,10 @@ pub extern "C" fn nuvaskoe_resend_plan(
     threshold: u32,
     out: &mut [u8],
 ) -> MarkCount
-    ensures answer { λ r. ⌜ r ≡ marksOut (planAnswer Lost (now (trace .entry)) batch threshold (now (out .entry))) ⌝ }
-    ensures buffer { λ r. ⌜ now (out .exit) ≡ bufferAfter Lost (now (trace .entry)) batch threshold (now (out .entry)) ⌝ }
+    ensures answer { λ r. ⌜ r ≡ marksOut (planAnswer (judged (now (trace .entry))) (countedAt Lost (now (trace .entry))) (length (now (trace .entry))) batch threshold (now (out .entry))) ⌝ }
+    ensures buffer { λ r. ⌜ now (out .exit) ≡ bufferAfter (judged (now (trace .entry))) (countedAt Lost (now (trace .entry))) (length (now (trace .entry))) batch threshold (now (out .entry)) ⌝ }
+    ensures best { λ r. ⌜ (Plannable (judged (now (trace .entry))) (length (now (trace .entry))) batch threshold (now (out .entry)) → Best (countedAt Lost (now (trace .entry))) (length (now (trace .entry))) batch threshold (take (length (now (trace .entry))) (now (out .exit)))) ⌝ }
+    ensures count { λ r. ⌜ (Plannable (judged (now (trace .entry))) (length (now (trace .entry))) batch threshold (now (out .entry)) → r .marks ≡ marks (take (length (now (trace .entry))) (now (out .exit)))) ⌝ }
 {
     marks_out(resend::plan(trace, batch, threshold, out))
 }

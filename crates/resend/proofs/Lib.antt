@@ -5,3 +5,4 @@ pub mod Best
 pub mod Filling
 pub mod Answering
 pub mod Repair
+pub mod Same

@@ -6,30 +6,26 @@ use mathlib.Core.Bool.{Bool, true, false, cond, _&&_, not}
 use mathlib.Core.List.{List, [], _∷_}
 use native.Mathlib.Omega.{arith}
 use native.Mathlib.Nat.{zero-mul, zero-div}
-use borrow.Author.Tests.{le-ltb}
 use lib.ListN.{length, getD}
-use Rattle.settings.specs.Ranges.{batchInRange}
 use Rattle.trace.specs.declared.Event.{Event}
 use Rattle.trace.specs.declared.Event.the-variants.{Lost, Discarded}
-use Rattle.refusal.specs.declared.Judged.the-variants.{Accepted}
 use Rattle.trace.specs.Sum.{bit}
-use Rattle.trace.specs.Trace.{received, packetMax, countsAs, countedIn, judged}
-use Rattle.trace.specs.Laws.{Sound}
+use Rattle.trace.specs.Trace.{received, packetMax, countsAs, countedAt, judged}
+use Rattle.trace.specs.Laws.{IsTrace}
 use Rattle.trace.proofs.Sums.{sum-same}
-use Rattle.trace.proofs.Judging.{accepted-sound, sound-accepted}
+use Rattle.trace.proofs.Judging.{accepted-trace, trace-accepted}
 use Rattle.batch.specs.declared.First.the-variants.{None}
-use Rattle.batch.specs.declared.LossRead.the-variants.{Loss}
-use Rattle.batch.specs.Batches.{batches, lossesIn, over, overCount}
-use Rattle.batch.specs.Loss.{lossOf, lossAnswer}
+use Rattle.batch.specs.Batches.{batches, lossesIn, overCount}
+use Rattle.batch.specs.Loss.{lossOf}
 use Rattle.batch.proofs.Judging.{accepted}
-use Rattle.batch.proofs.Counting.{count-none, none-named}
+use Rattle.batch.proofs.Counting.{none-named, none-over}
 use Rattle.batch.proofs.Answering.{measured}
 use Rattle.resend.specs.Plans.{marked, left, Valid, resent}
-use Rattle.resend.specs.Laws.{front, Plan-repairs}
+use Rattle.resend.specs.Laws.{planIn, Plan-repairs}
 use Rattle.resend.proofs.Answering.{plan-best}
 
 -- a resent trace, packet by packet
-pub resent-length : (s p : List ℕ) → length (resent s p) ≡ length s
+resent-length : (s p : List ℕ) → length (resent s p) ≡ length s
 unfolding resent
 resent-length [] p = refl
 resent-length (packet ∷ s) [] = refl
@@ -49,16 +45,16 @@ received-uncounted Lost = refl
 received-uncounted Discarded = refl
 
 -- what counts in a resent trace is what the plan leaves
-resent-left : (event : Event) (s p : List ℕ) (i : ℕ) → i < length s → countedIn event (resent s p) i ≡ left (countedIn event s) p i
-resent-left event s p i h = rw (resent-at s p i h) (go (marked p i) (countedIn event s i) refl)
+resent-left : (event : Event) (s p : List ℕ) (i : ℕ) → i < length s → countedAt event (resent s p) i ≡ left (countedAt event s) p i
+resent-left event s p i h = rw (resent-at s p i h) (go (marked p i) (countedAt event s i) refl)
   where
-    go : (m x : Bool) → countedIn event s i ≡ x → countsAs event (cond m received (getD s i 0)) ≡ (x && not m)
+    go : (m x : Bool) → countedAt event s i ≡ x → countsAs event (cond m received (getD s i 0)) ≡ (x && not m)
     go true true e = received-uncounted event
     go true false e = received-uncounted event
     go false true e = e
     go false false e = e
 
-resent-sound : (s p : List ℕ) → Sound s → Sound (resent s p)
+resent-sound : (s p : List ℕ) → IsTrace s → IsTrace (resent s p)
 resent-sound s p h =
     record {
       some = rw (resent-length s p) (h .some);
@@ -73,31 +69,30 @@ resent-sound s p h =
         go true = omega arith
         go false = h .each i l
 
-module _ (event : Event) (s : List ℕ) (b t : ℕ) (within : b ≤ length s) (p : List ℕ) (v : Valid (countedIn event s) (length s) b t p) where
+module _ (event : Event) (s : List ℕ) (b t : ℕ) (within : b ≤ length s) (p : List ℕ) (v : Valid (countedAt event s) (length s) b t p) where
   abbrev now-lost : ℕ → Bool
-  now-lost = countedIn event (resent s p)
+  now-lost = countedAt event (resent s p)
 
-  none-over : (k : ℕ) → k < batches (length s) b → lossesIn now-lost b k ≤ t
-  none-over k h = rw same (v .none-over k h)
+  pub few-left : (k : ℕ) → k < batches (length s) b → lossesIn now-lost b k ≤ t
+  few-left k h = rw same (v .none-over k h)
     where
-      same : lossesIn now-lost b k ≡ lossesIn (left (countedIn event s) p) b k
+      same : lossesIn now-lost b k ≡ lossesIn (left (countedAt event s) p) b k
       same = sum-same _ _ k b (λ i l. ap bit (resent-left event s p (k + i) (omega arith)))
 
-  none-counted : overCount now-lost (length s) b t ≡ 0
-  unfolding overCount
-  none-counted = count-none (over now-lost b t) 0 (batches (length s) b) (λ i l h. le-ltb t (lossesIn now-lost b i) (none-over i (omega arith)))
+  none-left : overCount now-lost (length s) b t ≡ 0
+  none-left = none-over now-lost (length s) b t few-left
 
   repaired : lossOf now-lost (length s) b t ≡ record { over = 0; batches = batches (length s) b; index = 0; first = None }
   unfolding lossOf
-  repaired = rw (none-counted, none-named now-lost (length s) b t none-counted, zero-mul, zero-div)
-
-  pub repairs : judged s ≡ Accepted → batchInRange b t ≡ true →
-      lossAnswer event (resent s p) b t ≡ Loss record { over = 0; batches = batches (length s) b; index = 0; first = None }
-  repairs good range =
-      let again = sound-accepted (resent s p) (resent-sound s p (accepted-sound s good)) in
-      let long = resent-length s p in
-      sym (measured event (resent s p) b t _ (sym (accepted (resent s p) b t range again (omega arith))) (sym (rw long repaired)))
+  repaired = rw (none-left, none-named now-lost (length s) b t none-left, zero-mul, zero-div)
 
 pub plan-repairs : Plan-repairs
-plan-repairs event s b t buffer good range within room =
-    repairs event s b t within (front event s b t buffer) (plan-best event s b t buffer good range within room .best .smallest .valid) good range
+plan-repairs event s b t buffer a =
+    let p = planIn event s b t buffer in
+    let valid = plan-best (judged s) (countedAt event s) (length s) b t buffer a .best .smallest .valid in
+    let good = trace-accepted (resent s p) (resent-sound s p (accepted-trace s (a .accepted))) in
+    let long = resent-length s p in
+    rw long
+    (sym (measured (judged (resent s p)) (countedAt event (resent s p)) (length s) b t _
+    (sym (accepted (judged (resent s p)) (length s) b t (a .range) good (a .within)))
+    (sym (repaired event s b t (a .within) p valid))))

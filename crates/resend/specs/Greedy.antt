@@ -1,7 +1,7 @@
 -- The plan that is answered, packet by packet: a lost packet is marked exactly when t unmarked losses already
 -- stand among the b - 1 packets before it. That it is demand 3's plan is the law `Plan-best`.
 use Prim.Native.Nat.{ℕ, zero, suc, _-_}
-use mathlib.Core.Bool.{Bool, cond, _&&_}
+use mathlib.Core.Bool.{Bool, _&&_}
 use mathlib.Core.List.{List, [], _∷_, _++_}
 use lib.Dec.{leb}
 use Rattle.trace.specs.Sum.{bit, count}
@@ -14,10 +14,6 @@ windowAt b i = suc i - b
 -- the losses without a mark among the b - 1 packets before packet i
 unfoldable pub recent : (ℕ → Bool) → ℕ → List ℕ → ℕ → ℕ
 recent lost b p i = count (left lost p) (windowAt b i) (i - windowAt b i)
-
--- the loss without a mark, if it is one, that stands b packets before packet i
-unfoldable pub leaving : (ℕ → Bool) → ℕ → List ℕ → ℕ → ℕ
-leaving lost b p i = cond (leb b i) (bit (left lost p (i - b))) 0
 
 -- the rule for packet i, after the plan p of the packets before it
 abbrev pub toMark : (ℕ → Bool) → ℕ → ℕ → List ℕ → ℕ → Bool

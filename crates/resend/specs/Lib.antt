@@ -1,4 +1,5 @@
 pub mod Plans
 pub mod Greedy
+pub mod Steps
 pub mod Answer
 pub mod Laws

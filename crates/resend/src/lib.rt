@@ -11,10 +11,11 @@ ghost use Prim.Native.Nat.{_-_, _<_, _≤_, min};
 ghost use lib.ListN.{length, getD, drop};
 ghost use Rattle.trace.specs.declared.Event.the-variants.{Lost};
 ghost use Rattle.trace.specs.Sum.{bit};
-ghost use Rattle.trace.specs.Trace.{countedIn};
+ghost use Rattle.trace.specs.Trace.{countedAt, judged};
 ghost use Rattle.resend.specs.Plans.{marks};
-ghost use Rattle.resend.specs.Greedy.{leaving};
-ghost use Rattle.resend.specs.Answer.{planFor, planAnswer, bufferAfter};
+ghost use Rattle.resend.specs.Greedy.{planOf};
+ghost use Rattle.resend.specs.Steps.{leaving};
+ghost use Rattle.resend.specs.Answer.{planAnswer, bufferAfter, Plannable, PlannedBest};
 
 // What planning answers: the number of marks, or why not.
 pub enum Planned {
@@ -22,10 +23,12 @@ pub enum Planned {
     Refused(Refusal),
 }
 
-// Writes the plan of a trace into the front of out.
+// Writes the plan of a trace into the front of out. The clause `best` is demand 3 by itself: wherever it is asked, the
+// front is its plan, the answer is the number of its marks, and the further bytes are as they were.
 pub fn plan(trace: &[u8], batch: u32, threshold: u32, out: &mut [u8]) -> Planned
-    ensures answer { λ r. ⌜ r ≡ planAnswer Lost (now (trace .entry)) batch threshold (now (out .entry)) ⌝ }
-    ensures buffer { λ r. ⌜ now (out .exit) ≡ bufferAfter Lost (now (trace .entry)) batch threshold (now (out .entry)) ⌝ }
+    ensures answer { λ r. ⌜ r ≡ planAnswer (judged (now (trace .entry))) (countedAt Lost (now (trace .entry))) (length (now (trace .entry))) batch threshold (now (out .entry)) ⌝ }
+    ensures buffer { λ r. ⌜ now (out .exit) ≡ bufferAfter (judged (now (trace .entry))) (countedAt Lost (now (trace .entry))) (length (now (trace .entry))) batch threshold (now (out .entry)) ⌝ }
+    ensures best { λ r. ⌜ (Plannable (judged (now (trace .entry))) (length (now (trace .entry))) batch threshold (now (out .entry)) → PlannedBest (countedAt Lost (now (trace .entry))) (length (now (trace .entry))) batch threshold (now (out .entry)) r (now (out .exit))) ⌝ }
 {
     match judge(trace, batch, threshold) {
         Judged::Accepted => {
@@ -42,8 +45,8 @@ pub fn plan(trace: &[u8], batch: u32, threshold: u32, out: &mut [u8]) -> Planned
 // without a mark already stand among the `batch` - 1 packets before it; `left` is the running count.
 fn fill(event: Event, s: &[u8], batch: usize, threshold: usize, out: &mut [u8]) -> usize
     requires { ⌜ (1 ≤ batch) × (length (now s) ≤ length (now out)) ⌝ }
-    ensures count { λ r. ⌜ r ≡ marks (planFor event (now (s .entry)) batch threshold) ⌝ }
-    ensures buffer { λ r. ⌜ now (out .exit) ≡ planFor event (now (s .entry)) batch threshold ++ drop (length (now (s .entry))) (now (out .entry)) ⌝ }
+    ensures count { λ r. ⌜ r ≡ marks (planOf (countedAt event (now (s .entry))) batch threshold (length (now (s .entry)))) ⌝ }
+    ensures buffer { λ r. ⌜ now (out .exit) ≡ planOf (countedAt event (now (s .entry))) batch threshold (length (now (s .entry))) ++ drop (length (now (s .entry))) (now (out .entry)) ⌝ }
 {
     let mut left = 0;
     let mut marks = 0;
@@ -66,8 +69,8 @@ fn fill(event: Event, s: &[u8], batch: usize, threshold: usize, out: &mut [u8]) 
 
 // The running count without the packet that stands `batch` before packet i.
 fn slide(event: Event, s: &[u8], plan: &[u8], batch: usize, i: usize, left: usize) -> usize
-    requires { ⌜ (1 ≤ batch) × (i < length (now s)) × (i < length (now plan)) × (leaving (countedIn event (now s)) batch (now plan) i ≤ left) × (batch ≤ i → getD (now plan) (i - batch) 0 ≤ bit (countedIn event (now s) (i - batch))) ⌝ }
-    ensures { λ r. ⌜ r ≡ left - leaving (countedIn event (now (s .entry))) batch (now (plan .entry)) i ⌝ }
+    requires { ⌜ (1 ≤ batch) × (i < length (now s)) × (i < length (now plan)) × (leaving (countedAt event (now s)) batch (now plan) i ≤ left) × (batch ≤ i → getD (now plan) (i - batch) 0 ≤ bit (countedAt event (now s) (i - batch))) ⌝ }
+    ensures { λ r. ⌜ r ≡ left - leaving (countedAt event (now (s .entry))) batch (now (plan .entry)) i ⌝ }
 {
     if i < batch {
         return left;

@@ -15,7 +15,7 @@ use Rattle.refusal.specs.Table.{traceLength, traceByte}
 use Rattle.refusal.proofs.Tests.{both}
 use Rattle.refusal.specs.declared.Judged.the-variants.{Accepted, Refused}
 use Rattle.trace.specs.Trace.{packetMax, traceMin, traceMax, lengthInRange, firstBad, judged}
-use Rattle.trace.specs.Laws.{Sound, Accepted-sound, Sound-accepted, First-bad}
+use Rattle.trace.specs.Laws.{IsTrace, Accepted-trace, Trace-accepted, First-bad}
 
 -- the length
 pub empty : (s : List ℕ) → length s < traceMin → Refused traceLength ≡ judged s
@@ -122,12 +122,12 @@ pub asked-all : (s : List ℕ) (found : Bool) (i : ℕ) → Asked s found i → 
 asked-all s found i a h = let end : i ≡ length s = omega (arith, a .within) in a .answer ∙ rw end
 
 -- what an accepted trace is
-pub accepted-sound : Accepted-sound
+pub accepted-trace : Accepted-trace
 unfolding judged lengthInRange
-accepted-sound s h = go (leb traceMin (length s)) (leb (length s) traceMax) (leb (length s) (firstBad s)) refl refl refl h
+accepted-trace s h = go (leb traceMin (length s)) (leb (length s) traceMax) (leb (length s) (firstBad s)) refl refl refl h
   where
     go : (a b g : Bool) → leb traceMin (length s) ≡ a → leb (length s) traceMax ≡ b → leb (length s) (firstBad s) ≡ g →
-        unless (a && b) (Refused traceLength) (unless g (Refused (traceByte (firstBad s))) Accepted) ≡ Accepted → Sound s
+        unless (a && b) (Refused traceLength) (unless g (Refused (traceByte (firstBad s))) Accepted) ≡ Accepted → IsTrace s
     go true true true some most all e =
         record {
           some = leb-true traceMin (length s) some;
@@ -138,9 +138,9 @@ accepted-sound s h = go (leb traceMin (length s)) (leb (length s) traceMax) (leb
     go true false g some most all e = let z : _≡_ {A = ℕ} 0 1 = cc in absurd (omega arith)
     go false b g some most all e = let z : _≡_ {A = ℕ} 0 1 = cc in absurd (omega arith)
 
-pub sound-accepted : Sound-accepted
+pub trace-accepted : Trace-accepted
 unfolding judged
-sound-accepted s h = go (leb (length s) (firstBad s)) refl
+trace-accepted s h = go (leb (length s) (firstBad s)) refl
   where
     go : (t : Bool) → leb (length s) (firstBad s) ≡ t → unless (lengthInRange s) (Refused traceLength) (unless (leb (length s) (firstBad s)) (Refused (traceByte (firstBad s))) Accepted) ≡ Accepted
     go true e = rw (in-range s (h .some) (h .most), e)

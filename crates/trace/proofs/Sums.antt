@@ -1,13 +1,13 @@
 -- Laws of sums over positions: the step, the cut, two sums compared position by position, and the sum of
 -- tests. Every window of a trace is a difference of two sums from 0, so that what is said of windows is plain
 -- arithmetic. Assumes nothing.
-use Prim.Native.Nat.{ℕ, zero, suc, _+_, _<_, _≤_}
-use mathlib.Core.Path.{_≡_, refl}
+use Prim.Native.Nat.{ℕ, zero, suc, _+_, _-_, _<_, _≤_}
+use mathlib.Core.Path.{_≡_, refl, ap, _∙_}
 use mathlib.Core.Bool.{Bool, true, false}
 use native.Mathlib.Omega.{arith}
-use native.Mathlib.Nat.{add-suc, add-zero, add-assoc}
+use native.Mathlib.Nat.{add-suc, add-zero, zero-add, add-assoc}
 use native.Mathlib.Numerals.{add-one}
-use Rattle.trace.specs.Sum.{sum, bit, count}
+use Rattle.trace.specs.Sum.{sum, bit, bits, count}
 
 pub bit-le : (b : Bool) → bit b ≤ 1
 unfolding bit
@@ -34,11 +34,6 @@ module _ (f g : ℕ → ℕ) (start : ℕ) where
   sum-same zero same = refl
   sum-same (suc n) same = rw (sum-same n (λ i h. same i (omega arith)), same n (omega arith))
 
-  pub sum-le : (n : ℕ) → ((i : ℕ) → i < n → f (start + i) ≤ g (start + i)) → sum f start n ≤ sum g start n
-  unfolding sum
-  sum-le zero below = omega arith
-  sum-le (suc n) below = omega (arith, sum-le n (λ i h. below i (omega arith)), below n (omega arith))
-
 module _ (f g h : ℕ → ℕ) (start : ℕ) where
   pub sum-both : (n : ℕ) → ((i : ℕ) → i < n → f (start + i) ≡ g (start + i) + h (start + i)) → sum f start n ≡ sum g start n + sum h start n
   unfolding sum
@@ -51,4 +46,26 @@ sum-most f start zero small = omega arith
 sum-most f start (suc n) small = omega (arith, sum-most f start n small, small (start + n))
 
 pub count-most : (test : ℕ → Bool) (start n : ℕ) → count test start n ≤ n
-count-most test start n = sum-most (λ i. bit (test i)) start n (λ i. bit-le (test i))
+count-most test start n = sum-most (bits test) start n (λ i. bit-le (test i))
+
+pub count-none : (test : ℕ → Bool) (start n : ℕ) → ((i : ℕ) → start ≤ i → i < start + n → test i ≡ false) → count test start n ≡ 0
+unfolding sum bit
+count-none test start zero none = refl
+count-none test start (suc n) none =
+    rw (none (start + n) (omega arith) (omega arith), count-none test start n (λ i l h. none i l (omega arith)))
+
+-- f over the first n positions
+abbrev pub upTo : (ℕ → ℕ) → ℕ → ℕ
+upTo f n = sum f 0 n
+
+module _ (f : ℕ → ℕ) where
+  pub upTo-next : (i : ℕ) → upTo f (suc i) ≡ upTo f i + f i
+  unfolding sum
+  upTo-next i = rw (zero-add i)
+
+  -- the window of n positions from k on, and the one from k to n, as what the sum from 0 gains
+  pub upTo-window : (k n : ℕ) → upTo f (k + n) ≡ upTo f k + sum f k n
+  upTo-window k n = sum-cut f 0 k n ∙ ap (λ (m : ℕ). upTo f k + sum f m n) (zero-add k)
+
+  pub upTo-from : (k n : ℕ) → k ≤ n → upTo f n ≡ upTo f k + sum f k (n - k)
+  upTo-from k n h = let e : n ≡ k + (n - k) = omega arith in ap (upTo f) e ∙ upTo-window k (n - k)

@@ -11,6 +11,10 @@ unfoldable pub bit : Bool → ℕ
 bit true = 1
 bit false = 0
 
+-- a test of positions as a number, 0 or 1
+abbrev pub bits : (ℕ → Bool) → ℕ → ℕ
+bits test i = bit (test i)
+
 -- how many of the n positions from `start` pass the test
 abbrev pub count : (ℕ → Bool) → ℕ → ℕ → ℕ
-count test start n = sum (λ i. bit (test i)) start n
+count test start n = sum (bits test) start n

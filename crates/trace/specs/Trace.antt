@@ -36,8 +36,8 @@ countsAs Lost packet = eqb packet lost
 countsAs Discarded packet = eqb packet discarded
 
 -- whether packet i of a trace is counted
-abbrev pub countedIn : Event → List ℕ → ℕ → Bool
-countedIn event s i = countsAs event (getD s i 0)
+abbrev pub countedAt : Event → List ℕ → ℕ → Bool
+countedAt event s i = countsAs event (getD s i 0)
 
 -- "trace empty or over 65,536" is not so
 unfoldable pub lengthInRange : List ℕ → Bool
@@ -48,7 +48,7 @@ unfoldable pub firstBad : List ℕ → ℕ
 firstBad [] = 0
 firstBad (packet ∷ s) = cond (leb packet packetMax) (suc (firstBad s)) 0
 
--- A trace by itself, with the order line "Traces: 15, 10, 9, 14, 8".
+-- A trace by itself: 10 and 9 of the order line "Traces: 15, 10, 9, 14, 8".
 unfoldable pub judged : List ℕ → Judged
 judged s =
     unless (lengthInRange s) (Refused traceLength)

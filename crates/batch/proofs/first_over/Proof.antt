@@ -5,7 +5,7 @@ use mathlib.Core.Path.{_≡_, refl}
 use native.Mathlib.Omega.{arith}
 use borrow.Author.Needs.{needs}
 use lib.ListN.{length}
-use Rattle.trace.specs.Trace.{countedIn}
+use Rattle.trace.specs.Trace.{countedAt}
 use Rattle.trace.proofs.Sums.{bit-le}
 use Rattle.batch.specs.Batches.{batches}
 use Rattle.batch.proofs.Loops.{Part, part-none, part-more, part-small, part-over, part-under, Sought, sought-none, sought-more, sought-here, sought-all}
@@ -13,13 +13,13 @@ use Rattle.batch.proofs.first_over.Statement.{statement}
 use Rattle.batch.proofs.first_over.Tie as tie
 
 abbrev Inv-loop : tie.InvT-loop
-Inv-loop event s batch threshold found₀ k losses₀ i₀ found losses i = Part (countedIn event s) batch k losses i × (losses ≤ threshold) × (found ≡ found₀)
+Inv-loop event s batch threshold found₀ k losses₀ i₀ found losses i = Part (countedAt event s) batch k losses i × (losses ≤ threshold) × (found ≡ found₀)
 
 abbrev μ-loop : tie.MeasureT-loop
 μ-loop event s batch threshold found₀ k losses₀ i₀ found losses i = batch - i
 
 abbrev Inv-batches : tie.InvT-batches
-Inv-batches event s batch threshold found₀ k₀ found k = Sought (countedIn event s) (length s) batch threshold found k
+Inv-batches event s batch threshold found₀ k₀ found k = Sought (countedAt event s) (length s) batch threshold found k
 
 abbrev μ-batches : tie.MeasureT-batches
 μ-batches event s batch threshold found₀ k₀ found k = batches (length s) batch - k
@@ -29,7 +29,7 @@ small : (c : tie.After-counted Inv-loop μ-loop Inv-batches μ-batches) → (c .
 small c = (part-small _ _ _ _ _ (c .before .before .before .loop .inv .0), rw (c .counted .ensures) (bit-le _))
 
 more : (c : tie.After-counted Inv-loop μ-loop Inv-batches μ-batches) →
-    Part (countedIn (c .before .before .before .before .before .before .before .args .event) (c .before .before .before .before .before .before .before .args .s .now))
+    Part (countedAt (c .before .before .before .before .before .before .before .args .event) (c .before .before .before .before .before .before .before .args .s .now))
     (c .before .before .before .before .before .before .before .args .batch) (c .before .before .before .before .before .batches .k)
     (c .before .before .before .loop .losses + c .counted .result) (c .before .before .before .loop .i + 1)
 more c = part-more _ _ _ _ _ (c .before .before .before .loop .inv .0) (omega arith) _ (c .counted .ensures)

@@ -2,14 +2,14 @@
 use Prim.Native.Nat.{_-_, _≤_}
 use native.Mathlib.Omega.{arith}
 use borrow.Author.Needs.{needs}
-use Rattle.trace.specs.Trace.{countedIn}
+use Rattle.trace.specs.Trace.{countedAt}
 use Rattle.trace.proofs.Sums.{bit-le}
 use Rattle.batch.proofs.Loops.{Part, part-none, part-more, part-small, part-all}
 use Rattle.batch.proofs.losses_in.Statement.{statement}
 use Rattle.batch.proofs.losses_in.Tie as tie
 
 abbrev Inv-loop : tie.InvT-loop
-Inv-loop event s batch k n₀ j₀ n j = Part (countedIn event s) batch k n j
+Inv-loop event s batch k n₀ j₀ n j = Part (countedAt event s) batch k n j
 
 abbrev μ-loop : tie.MeasureT-loop
 μ-loop event s batch k n₀ j₀ n j = batch - j

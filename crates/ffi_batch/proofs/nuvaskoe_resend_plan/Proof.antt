@@ -1,5 +1,9 @@
 -- `ffi_batch::nuvaskoe_resend_plan` meets its contract: the library's call, put into the struct. Assumes nothing.
-use mathlib.Core.Path.{ap, _∙_}
+use Prim.Native.Nat.{ℕ}
+use mathlib.Core.Path.{_≡_, ap, _∙_}
+use Rattle.resend.specs.declared.Planned.{Planned}
+use Rattle.resend.specs.declared.Planned.the-variants.{Marks}
+use Rattle.ffi_batch.specs.declared.MarkCount.{MarkCount}
 use Rattle.ffi_batch.specs.Answers.{marksOut}
 use borrow.Author.Needs.{needs}
 use Rattle.ffi_batch.proofs.nuvaskoe_resend_plan.Statement.{statement}
@@ -14,10 +18,21 @@ marks-out-requires c κs = search needs
 same-length : tie.Need-same-length
 same-length c = search needs
 
+-- the count of a plan that was made
+counted : (r : MarkCount) (p : Planned) (n : ℕ) → r ≡ marksOut p → p ≡ Marks n → r .marks ≡ n
+counted r p n out is = rw (out, is)
+
 returns : tie.Need-returns
-returns c =
-    let p = c .before .before .before .plan in
-    (c .marks-out .ensures ∙ ap marksOut (p .ensures .0), p .ensures .1)
+returns c = (
+  c .marks-out .ensures ∙ ap marksOut (c .before .before .before .plan .ensures .0),
+  (
+    c .before .before .before .plan .ensures .1 .0,
+    (
+      λ a. c .before .before .before .plan .ensures .1 .1 a .best,
+      λ a. counted _ _ _ (c .marks-out .ensures) (c .before .before .before .plan .ensures .1 .1 a .answer),
+    ),
+  ),
+)
 
 pub nuvaskoe-resend-plan-spec : {M : Type 1} → statement M
 nuvaskoe-resend-plan-spec =

@@ -5,14 +5,13 @@ use mathlib.Core.Bool.{true}
 use native.Mathlib.Omega.{arith}
 use borrow.Author.Needs.{needs}
 use lib.ListN.{length}
-use Rattle.trace.specs.Trace.{countedIn}
-use Rattle.resend.specs.Answer.{planFor}
+use Rattle.trace.specs.Trace.{countedAt}
 use Rattle.resend.proofs.Filling.{Filling, filling-none, filling-length, filling-small, slid-some, slid-small, marks-lost, mark-small, enters-lost, enters-fine, filling-all}
 use Rattle.resend.proofs.fill.Statement.{statement}
 use Rattle.resend.proofs.fill.Tie as tie
 
 abbrev Inv-loop : tie.InvT-loop
-Inv-loop event s batch threshold out₀ left₀ marks₀ i₀ out left marks i = Filling (countedIn event s) batch threshold (length s) out₀ out left marks i
+Inv-loop event s batch threshold out₀ left₀ marks₀ i₀ out left marks i = Filling (countedAt event s) batch threshold (length s) out₀ out left marks i
 
 abbrev μ-loop : tie.MeasureT-loop
 μ-loop event s batch threshold out₀ left₀ marks₀ i₀ out left marks i = length s - i
@@ -46,7 +45,7 @@ counts-requires c κs = search needs
 -- where the packet is counted
 is-lost : (c : tie.Then1 Inv-loop μ-loop) →
     let a = c .before .before .before .before .before .before .before .before .before .args in
-    countedIn (a .event) (a .s .now) (c .before .before .before .before .before .before .loop .i) ≡ true
+    countedAt (a .event) (a .s .now) (c .before .before .before .before .before .before .loop .i) ≡ true
 is-lost c = sym (c .before .counts .ensures) ∙ c .if1 .taken
 
 add-least : tie.Need-add-least Inv-loop μ-loop
@@ -104,7 +103,6 @@ same-length : tie.Need-same-length Inv-loop μ-loop
 same-length c = long (c .before)
 
 returns : tie.Need-returns Inv-loop μ-loop
-unfolding planFor
 returns c = filling-all _ _ _ _ _ _ _ _ _ (c .before .loop .inv) (omega arith)
 
 pub fill-spec : {M : Type 1} → statement M

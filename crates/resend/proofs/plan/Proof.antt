@@ -1,8 +1,13 @@
 -- `resend::plan` meets its contract. Each return is one of the cases of Answering.antt. Assumes nothing.
 use mathlib.Core.Path.{_≡_, sym, _∙_}
+use lib.ListN.{length}
 use Rattle.refusal.specs.declared.Judged.the-variants.{Accepted}
+use Rattle.settings.specs.Ranges.{limits}
+use Rattle.settings.proofs.Bounds.{batch}
+use Rattle.trace.specs.Trace.{judged}
 use Rattle.batch.specs.Judging.{judgedFor}
-use Rattle.batch.proofs.Judging.{Fit, fit}
+use Rattle.batch.proofs.Judging.{fit}
+use Rattle.resend.specs.Answer.{Plannable}
 use Rattle.resend.proofs.Answering.{refused, too-short, planned}
 use borrow.Author.Needs.{needs}
 use Rattle.resend.proofs.plan.Statement.{statement}
@@ -14,22 +19,22 @@ judge-requires c κs = search needs
 enum-told : tie.Need-enum-told
 enum-told c = search needs
 
--- in the arm of an accepted trace
-judged : (c : tie.After-enum-told) →
+-- in the arm of an accepted trace, and then with room
+taken : (c : tie.After-enum-told) →
     let a = c .before .before .before .before .before .args in
-    judgedFor (a .trace .now) (a .batch) (a .threshold) ≡ Accepted
-judged c = sym (c .before .before .judge .ensures) ∙ c .enum-told .given .1
+    judgedFor (judged (a .trace .now)) (length (a .trace .now)) (a .batch) (a .threshold) ≡ Accepted
+taken c = sym (c .before .before .judge .ensures) ∙ c .enum-told .given .1
 
-fits : (c : tie.After-enum-told) →
-    let a = c .before .before .before .before .before .args in
-    Fit (a .trace .now) (a .batch) (a .threshold)
-fits c = fit _ _ _ (judged c)
+asked : (c : tie.Else1) →
+    let a = c .before .before .before .before .before .before .args in
+    Plannable (judged (a .trace .now)) (length (a .trace .now)) (a .batch) (a .threshold) (a .out .now)
+asked c = let f = fit _ _ _ _ (taken (c .before)) in record { accepted = f .good; range = f .range; within = f .within; room = c .if1 .left }
 
 returns : tie.Need-returns
-returns c = too-short _ _ _ _ _ (judged (c .before)) (c .if1 .taken)
+returns c = too-short _ _ _ _ _ _ (taken (c .before)) (c .if1 .taken)
 
 fill-requires : tie.Need-fill-requires
-fill-requires c κs = (fits (c .before .before) .range .first .least, c .before .if1 .left)
+fill-requires c κs = (batch limits _ _ (asked (c .before) .range) .first .least, c .before .if1 .left)
 
 enum-known-r : tie.Need-enum-known-r
 enum-known-r c = search needs
@@ -38,11 +43,10 @@ same-length : tie.Need-same-length
 same-length c = search needs
 
 returns-2 : tie.Need-returns-2
-returns-2 c =
-    planned _ _ _ _ _ _ _ (judged (c .before .before .before .before .before)) (c .before .before .before .before .if1 .left) (c .before .before .fill .ensures .0) (c .before .before .fill .ensures .1)
+returns-2 c = planned _ _ _ _ _ _ _ _ (asked (c .before .before .before .before)) (c .before .before .fill .ensures .0) (c .before .before .fill .ensures .1)
 
 returns-3 : tie.Need-returns-3
-returns-3 c = refused _ _ _ _ _ _ (sym (c .before .before .before .judge .ensures) ∙ c .before .r .given .1)
+returns-3 c = refused _ _ _ _ _ _ _ (sym (c .before .before .before .judge .ensures) ∙ c .before .r .given .1)
 
 pub plan-spec : {M : Type 1} → statement M
 plan-spec =

@@ -5,9 +5,9 @@ use mathlib.Core.Path.{_≡_}
 use native.Mathlib.Omega.{arith}
 use mir.Val.{boolByte}
 use lib.ListN.{getD}
-use Rattle.trace.specs.Trace.{countedIn}
-use Rattle.resend.specs.Greedy.{leaving}
-use Rattle.resend.proofs.Filling.{byte-bit, byte-le, leaves-less, slides-none}
+use Rattle.trace.specs.Trace.{countedAt}
+use Rattle.resend.specs.Steps.{leaving}
+use Rattle.resend.proofs.Filling.{leaves-less, slides-none}
 use borrow.Author.Needs.{needs}
 use Rattle.resend.proofs.slide.Statement.{statement}
 use Rattle.resend.proofs.slide.Tie as tie
@@ -28,29 +28,26 @@ shared-slice-read-result : tie.Need-shared-slice-read-result
 shared-slice-read-result c = search needs
 
 -- the mark is at most the packet's bit, and the packet leaves as the difference of the two
-mark-le : (c : tie.After-counts) →
-    let a = c .before .before .before .before .before .args in
-    getD (a .plan .now) (a .i - a .batch) 0 ≤ boolByte (c .counts .result)
-mark-le c = rw (c .counts .ensures, byte-bit _) (c .before .before .before .before .before .pre .4 (c .before .before .if1 .left))
-
 leaves : (c : tie.After-counts) →
     let a = c .before .before .before .before .before .args in
-    leaving (countedIn (a .event) (a .s .now)) (a .batch) (a .plan .now) (a .i) ≡ boolByte (c .counts .result) - getD (a .plan .now) (a .i - a .batch) 0
+    let x = boolByte (c .counts .result) in
+    let mark = getD (a .plan .now) (a .i - a .batch) 0 in
+    (mark ≤ x) × (x ≤ 1) × (leaving (countedAt (a .event) (a .s .now)) (a .batch) (a .plan .now) (a .i) ≡ x - mark)
 leaves c =
-    rw (c .counts .ensures)
-    (leaves-less _ _ _ _ (c .before .before .if1 .left) (c .before .before .before .before .before .pre .4 (c .before .before .if1 .left)))
+    let late = c .before .before .if1 .left in
+    leaves-less _ _ _ _ late (c .before .before .before .before .before .pre .4 late) _ (c .counts .ensures)
 
 cast-result-2 : tie.Need-cast-result-2
-cast-result-2 c = omega (arith, mark-le (c .before), byte-le (c .before .counts .result))
+cast-result-2 c = omega (arith, leaves (c .before))
 
 sub-result : tie.Need-sub-result
-sub-result c = mark-le (c .before)
+sub-result c = leaves (c .before) .0
 
 sub-result-2 : tie.Need-sub-result-2
-sub-result-2 c = rw (← leaves (c .before)) (c .before .before .before .before .before .before .pre .3)
+sub-result-2 c = rw (← leaves (c .before) .2) (c .before .before .before .before .before .before .pre .3)
 
 returns-2 : tie.Need-returns-2
-returns-2 c = rw (leaves (c .before))
+returns-2 c = rw (leaves (c .before) .2)
 
 pub slide-spec : {M : Type 1} → statement M
 slide-spec =
