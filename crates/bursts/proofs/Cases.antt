@@ -25,13 +25,13 @@ some-rate events packets h = rw (ne-eqb packets 0 h)
 pub rate-small : (events packets : ℕ) → events ≤ packets → events * rateMax / packets ≤ rateMax
 rate-small events packets h = div-le-of-le-mul packets (mul-le-mul-right rateMax h)
 
-pub over : (measure : ℕ) → measureMax < measure → overRange ≡ ranged measure
+pub over-range : (measure : ℕ) → measureMax < measure → overRange ≡ ranged measure
 unfolding ranged
-over measure h = rw (lt-leb measure measureMax h)
+over-range measure h = rw (lt-leb measure measureMax h)
 
-pub within : (measure : ℕ) → measure ≤ measureMax → measure ≡ ranged measure
+pub in-range : (measure : ℕ) → measure ≤ measureMax → measure ≡ ranged measure
 unfolding ranged
-within measure h = rw (le-leb measure measureMax h)
+in-range measure h = rw (le-leb measure measureMax h)
 
 module _ (s : Sums) where
   module _ (none : s .bursts ≡ 0) where

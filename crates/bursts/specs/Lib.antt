@@ -1,5 +1,6 @@
 pub mod Groups
 pub mod Sums
+pub mod Grouping
 pub mod Figures
 pub mod Steps
 pub mod Laws

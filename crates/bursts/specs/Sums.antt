@@ -7,7 +7,7 @@ use lib.Dec.{eqb, leb}
 use lib.ListN.{length}
 use Rattle.trace.specs.Trace.{traceMax}
 use Rattle.bursts.specs.declared.Sums.{Sums}
-use Rattle.bursts.specs.Groups.{eventsAt, Group, groups, bursts, packetsOf, duration, square, total}
+use Rattle.bursts.specs.Groups.{eventsAt, Group, groups, burstsOf, packetsOf, duration, square, total}
 
 -- the sums of E packets with these groups of L events
 unfoldable pub sumsOver : ℕ → ℕ → ℕ → List Group → Sums
@@ -15,11 +15,11 @@ sumsOver spacing E L gs =
     record {
       packets = E;
       events = L;
-      «burst_packets» = total packetsOf (bursts gs);
-      «burst_events» = total (λ b. b .events) (bursts gs);
-      bursts = length (bursts gs);
-      durations = total (λ b. duration spacing (packetsOf b)) (bursts gs);
-      squares = total (λ b. square (duration spacing (packetsOf b))) (bursts gs);
+      «burst_packets» = total packetsOf (burstsOf gs);
+      «burst_events» = total length (burstsOf gs);
+      bursts = length (burstsOf gs);
+      durations = total (λ b. duration spacing (packetsOf b)) (burstsOf gs);
+      squares = total (λ b. square (duration spacing (packetsOf b))) (burstsOf gs);
     }
 
 -- the sums of a trace

@@ -6,263 +6,188 @@ use mathlib.Core.Bool.{Bool, true, false, cond}
 use mathlib.Core.List.{List, [], _∷_, _++_, append-nil}
 use native.Mathlib.Omega.{arith}
 use native.Mathlib.Decide.{decLt}
-use native.Mathlib.Nat.{add-zero, zero-add, add-assoc}
+use native.Mathlib.Nat.{add-zero}
 use borrow.Author.Tests.{lt-ltb, le-ltb, le-leb, lt-leb}
 use lib.Dec.{ltb}
-use Rattle.refusal.proofs.Tests.{both}
 use lib.ListN.{length, length-append}
 use lib.Seq.{append-snoc}
+use Rattle.refusal.proofs.Tests.{both}
 use Rattle.trace.specs.declared.Event.{Event}
 use Rattle.trace.specs.Trace.{countsAs}
 use Rattle.bursts.specs.declared.Sums.{Sums}
-use Rattle.bursts.specs.Groups.{eventsFrom, eventsAt, Group, alone, between, groups, burstMin, isBurst, bursts, packetsOf, duration, square, total}
+use Rattle.bursts.specs.Groups.{eventsFrom, eventsAt, Group, firstOf, lastOf, between, meet, join, groups, burstMin, burstsOf, packetsOf, duration, square, total}
 use Rattle.bursts.specs.Sums.{sumsOver, sumsOf}
-use Rattle.bursts.proofs.Groups.{behind, groups-behind, more-event, more-other}
+use Rattle.bursts.proofs.Groups.{events-join, first-append, last-append, groups-some, groups-join, join-last, bursts-append, total-append}
+use Rattle.bursts.proofs.Positions.{Last, last-group, groups-rise}
 use Rattle.tally.specs.declared.Stretch.{Stretch}
 use Rattle.tally.specs.declared.Tally.{Tally}
-use Rattle.tally.specs.Tally.{fresh, withBurst, countedIn, counted, onePacket, oneEvent, passed, joined, joins, lone, stepOf}
-use Rattle.tally.proofs.Limits.{counted-cases}
+use Rattle.tally.specs.Tally.{fresh, withBurst, countedIn, counted, openWithin, onePacket, oneEvent, passed, joined, joins, lone, stepOf}
+use Rattle.tally.proofs.Limits.{no-burst, counted-cases}
 use Rattle.tally.proofs.Turns.{passes, belongs, begins}
 
--- packets one after another, none refused
-unfoldable pub stepAll : Tally → List ℕ → Tally
-stepAll t [] = t
-stepAll t (packet ∷ s) = stepAll (stepOf t packet) s
-
--- all groups but the last
-unfoldable pub front : List Group → List Group
-front [] = []
-front (b ∷ []) = []
-front (b ∷ b′ ∷ bs) = b ∷ front (b′ ∷ bs)
-
 -- the last group as the open stretch, after E packets
-unfoldable pub lastOf : ℕ → List Group → Stretch
-lastOf E [] = record { events = 0; packets = 0; since = E }
-lastOf E (b ∷ []) = record { events = b .events; packets = packetsOf b; since = between (b .last) E }
-lastOf E (b ∷ b′ ∷ bs) = lastOf E (b′ ∷ bs)
+abbrev stretchOf : ℕ → Group → Stretch
+stretchOf E b = record { events = length b; packets = packetsOf b; since = between (lastOf b) E }
 
--- the last group lies among E packets
-unfoldable pub Inside : ℕ → List Group → Type 0
-Inside E [] = 0 ≤ E
-Inside E (b ∷ []) = (b .first ≤ b .last) × (b .last < E) × (0 < b .events)
-Inside E (b ∷ b′ ∷ bs) = Inside E (b′ ∷ bs)
+-- counting it in gives the sums over all groups
+module _ (spacing E L F : ℕ) (fs : List Group) (b : Group) where
+  few-last : length b < burstMin → sumsOver spacing E L fs ≡ sumsOver spacing E L (fs ++ b ∷ [])
+  unfolding sumsOver burstsOf
+  few-last h = rw (bursts-append fs (b ∷ []), lt-leb burstMin (length b) h, append-nil (burstsOf fs))
 
--- counting the last group in gives the sums over all of them
-total-last : (F : ℕ → ℕ → ℕ) (E : ℕ) (bs : List Group) → burstMin ≤ lastOf E bs .events →
-    total (λ b. F (b .events) (packetsOf b)) (bursts (front bs)) + F (lastOf E bs .events) (lastOf E bs .packets)
-    ≡ total (λ b. F (b .events) (packetsOf b)) (bursts bs)
-unfolding lastOf front bursts total
-total-last F E [] h = absurd (omega arith)
-total-last F E (b ∷ []) h = rw (le-leb burstMin (b .events) h, zero-add, add-zero)
-total-last F E (b ∷ b′ ∷ bs) h = go (isBurst b) (total-last F E (b′ ∷ bs) h)
-  where
-    f : Group → ℕ
-    f g = F (g .events) (packetsOf g)
+  more : (f : Group → ℕ) → total f (burstsOf fs ++ b ∷ []) ≡ total f (burstsOf fs) + f b
+  unfolding total
+  more f = total-append f (burstsOf fs) (b ∷ []) ∙ rw (add-zero (f b))
 
-    l : ℕ
-    l = F (lastOf E (b′ ∷ bs) .events) (lastOf E (b′ ∷ bs) .packets)
-
-    go : (t : Bool) → total f (bursts (front (b′ ∷ bs))) + l ≡ total f (bursts (b′ ∷ bs)) →
-        total f (cond t (b ∷ bursts (front (b′ ∷ bs))) (bursts (front (b′ ∷ bs)))) + l ≡ total f (cond t (b ∷ bursts (b′ ∷ bs)) (bursts (b′ ∷ bs)))
-    go true later = rw (add-assoc, later)
-    go false later = later
-
-bursts-last : (E : ℕ) (bs : List Group) → lastOf E bs .events < burstMin → bursts (front bs) ≡ bursts bs
-unfolding lastOf front bursts
-bursts-last E [] h = refl
-bursts-last E (b ∷ []) h = rw (lt-leb burstMin (b .events) h)
-bursts-last E (b ∷ b′ ∷ bs) h = rw (bursts-last E (b′ ∷ bs) h)
-
-length-total : (bs : List Group) → length bs ≡ total (λ b. 1) bs
-unfolding total
-length-total [] = refl
-length-total (b ∷ bs) = omega (arith, length-total bs)
-
-module _ (spacing E L F : ℕ) (bs : List Group) where
-  few-last : lastOf F bs .events < burstMin → sumsOver spacing E L (front bs) ≡ sumsOver spacing E L bs
-  unfolding sumsOver
-  few-last h = rw (bursts-last F bs h)
-
-  many-last : burstMin ≤ lastOf F bs .events → withBurst spacing (lastOf F bs) (sumsOver spacing E L (front bs)) ≡ sumsOver spacing E L bs
-  unfolding withBurst sumsOver
+  many-last : burstMin ≤ length b → withBurst spacing (stretchOf F b) (sumsOver spacing E L fs) ≡ sumsOver spacing E L (fs ++ b ∷ [])
+  unfolding withBurst sumsOver burstsOf
   many-last h =
-      rw (length-total (bursts (front bs)), length-total (bursts bs), total-last (λ e p. p) F bs h, total-last (λ e p. e) F bs h, total-last (λ e p. 1) F bs h, total-last (λ e p. duration spacing p) F bs h, total-last (λ e p. square (duration spacing p)) F bs h)
+      rw (bursts-append fs (b ∷ []), le-leb burstMin (length b) h, more packetsOf, more length, length-append (burstsOf fs) (b ∷ []), more (λ g. duration spacing (packetsOf g)), more (λ g. square (duration spacing (packetsOf g))))
 
-  pub sums-last : countedIn spacing (lastOf F bs) (sumsOver spacing E L (front bs)) ≡ sumsOver spacing E L bs
-  sums-last =
-      counted-cases (λ (r : Sums). r ≡ sumsOver spacing E L bs) spacing (lastOf F bs) (sumsOver spacing E L (front bs)) few-last many-last
+  sums-last : countedIn spacing (stretchOf F b) (sumsOver spacing E L fs) ≡ sumsOver spacing E L (fs ++ b ∷ [])
+  sums-last = counted-cases (λ (r : Sums). r ≡ sumsOver spacing E L (fs ++ b ∷ [])) spacing (stretchOf F b) (sumsOver spacing E L fs) few-last many-last
 
--- a group in front of others does not change what the last is
-front-cons : (b : Group) (bs : List Group) → 0 < length bs → front (b ∷ bs) ≡ b ∷ front bs
-unfolding front
-front-cons b [] h = absurd (omega arith)
-front-cons b (b′ ∷ bs) h = refl
-
-last-cons : (E : ℕ) (b : Group) (bs : List Group) → 0 < length bs → lastOf E (b ∷ bs) ≡ lastOf E bs
-unfolding lastOf
-last-cons E b [] h = absurd (omega arith)
-last-cons E b (b′ ∷ bs) h = refl
-
-inside-cons : (E : ℕ) (b : Group) (bs : List Group) → 0 < length bs → Inside E bs → Inside E (b ∷ bs)
-unfolding Inside
-inside-cons E b [] h i = absurd (omega arith)
-inside-cons E b (b′ ∷ bs) h i = i
-
--- the groups of a trace of E packets that gains an event: `next` are they, `f` all but the last, `o` the last
-record Gained (E : ℕ) (next f : List Group) (o : Stretch) : Type 0 where
-  pub some : 0 < length next
-  pub all : front next ≡ f
-  pub last : lastOf (E + 1) next ≡ o
-  pub inside : Inside (E + 1) next
-
-gained-cons : (E : ℕ) (b : Group) (next f : List Group) (o : Stretch) → Gained E next f o → Gained E (b ∷ next) (b ∷ f) o
-gained-cons E b next f o g =
-    record {
-      some = omega arith;
-      all = front-cons b next (g .some) ∙ ap (λ (x : List Group). b ∷ x) (g .all);
-      last = last-cons (E + 1) b next (g .some) ∙ g .last;
-      inside = inside-cons (E + 1) b next (g .some) (g .inside);
-    }
-
--- an event at position E that belongs to the last group, and one that does not
-module _ (gmin E : ℕ) where
-  near-last : (bs : List Group) → Inside E bs → 0 < lastOf E bs .events → lastOf E bs .since < gmin →
-      Gained E (behind gmin bs E) (front bs)
-      (record { events = lastOf E bs .events + 1; packets = lastOf E bs .packets + (lastOf E bs .since + 1); since = 0 })
-  unfolding Inside behind lastOf front
-  near-last [] i some near = absurd (omega arith)
-  near-last (b ∷ []) i some near =
-      let wide : E - b .first + 1 ≡ b .last - b .first + 1 + (between (b .last) E + 1) = omega arith in
-      let none : between E (E + 1) ≡ 0 = omega arith in
-      rw (lt-ltb (between (b .last) E) gmin near)
-      (record { some = omega arith; all = refl; last = rw (wide, none); inside = (omega arith, omega arith, omega arith) })
-  near-last (b ∷ b′ ∷ bs) i some near = gained-cons E b (behind gmin (b′ ∷ bs) E) (front (b′ ∷ bs)) _ (near-last (b′ ∷ bs) i some near)
-
-  far-last : (bs : List Group) → Inside E bs → (0 < lastOf E bs .events → gmin ≤ lastOf E bs .since) →
-      Gained E (behind gmin bs E) bs lone
-  unfolding Inside behind lastOf front alone
-  far-last [] i far =
-      let one : E - E + 1 ≡ 1 = omega arith in
-      let none : between E (E + 1) ≡ 0 = omega arith in
-      record { some = omega arith; all = refl; last = rw (one, none); inside = (omega arith, omega arith, omega arith) }
-  far-last (b ∷ []) i far =
-      let one : E - E + 1 ≡ 1 = omega arith in
-      let none : between E (E + 1) ≡ 0 = omega arith in
-      rw (le-ltb (between (b .last) E) gmin (far (i .2)))
-      (record { some = omega arith; all = refl; last = rw (one, none); inside = (omega arith, omega arith, omega arith) })
-  far-last (b ∷ b′ ∷ bs) i far = gained-cons E b (behind gmin (b′ ∷ bs) E) (b′ ∷ bs) _ (far-last (b′ ∷ bs) i far)
-
--- a packet that is no event
-pass-last : (E : ℕ) (bs : List Group) → Inside E bs →
-    lastOf (E + 1) bs ≡ record { events = lastOf E bs .events; packets = lastOf E bs .packets; since = lastOf E bs .since + 1 }
-unfolding Inside lastOf
-pass-last E [] i = refl
-pass-last E (b ∷ []) i = let more : between (b .last) (E + 1) ≡ between (b .last) E + 1 = omega arith in rw more
-pass-last E (b ∷ b′ ∷ bs) i = pass-last E (b′ ∷ bs) i
-
-pass-inside : (E : ℕ) (bs : List Group) → Inside E bs → Inside (E + 1) bs
-unfolding Inside
-pass-inside E [] i = omega arith
-pass-inside E (b ∷ []) i = (omega arith, omega arith, omega arith)
-pass-inside E (b ∷ b′ ∷ bs) i = pass-inside E (b′ ∷ bs) i
-
--- The tally of E packets with L events in these groups, and what a packet makes of it.
 module _ (gmin spacing : ℕ) (event : Event) where
-  unfoldable pub holding : ℕ → ℕ → List Group → Tally
-  holding E L bs =
-      record { gmin = gmin; spacing = spacing; event = event; sums = sumsOver spacing E L (front bs); stretch = lastOf E bs }
+  abbrev tally : Sums → Stretch → Tally
+  tally r o = record { gmin = gmin; spacing = spacing; event = event; sums = r; stretch = o }
 
-  module _ (E L : ℕ) (bs : List Group) (packet : ℕ) (i : Inside E bs) where
-    pass-held : countsAs event packet ≡ false → stepOf (holding E L bs) packet ≡ holding (E + 1) L bs
-    unfolding holding passed onePacket sumsOver
-    pass-held h = sym (passes (holding E L bs) packet h) ∙ rw (pass-last E bs i)
+  -- no event in E packets; L events, the last group b open
+  abbrev none : ℕ → Tally
+  none E = tally (sumsOver spacing E 0 []) (record { events = 0; packets = 0; since = E })
 
-    near-held : countsAs event packet ≡ true → 0 < lastOf E bs .events → lastOf E bs .since < gmin →
-        stepOf (holding E L bs) packet ≡ holding (E + 1) (L + 1) (behind gmin bs E)
-    unfolding holding joined oneEvent joins sumsOver
-    near-held h some near =
-        let g = near-last gmin E bs i some near in
-        sym (belongs (holding E L bs) packet h (both (ltb 0 (lastOf E bs .events)) (ltb (lastOf E bs .since) gmin) (lt-ltb _ _ some) (lt-ltb _ _ near)))
-        ∙ rw (g .all, g .last)
+  abbrev held : ℕ → ℕ → List Group → Group → Tally
+  held E L fs b = tally (sumsOver spacing E L fs) (stretchOf E b)
 
-    far-held : countsAs event packet ≡ true → joins (holding E L bs) ≡ false → (0 < lastOf E bs .events → gmin ≤ lastOf E bs .since) →
-        stepOf (holding E L bs) packet ≡ holding (E + 1) (L + 1) (behind gmin bs E)
-    unfolding holding oneEvent sumsOver
-    far-held h j far =
-        let g = far-last gmin E bs i far in
-        sym (begins (holding E L bs) packet (sumsOver spacing (E + 1) (L + 1) bs) h j (sym (sums-last spacing (E + 1) (L + 1) E bs)))
-        ∙ rw (g .all, g .last)
-
-    gain-held : countsAs event packet ≡ true → stepOf (holding E L bs) packet ≡ holding (E + 1) (L + 1) (behind gmin bs E)
-    unfolding holding joins
-    gain-held h = go (decLt 0 (lastOf E bs .events)) (decLt (lastOf E bs .since) gmin)
-      where
-        go : Dec (0 < lastOf E bs .events) → Dec (lastOf E bs .since < gmin) → stepOf (holding E L bs) packet ≡ holding (E + 1) (L + 1) (behind gmin bs E)
-        go (yes some) (yes near) = near-held h some near
-        go (yes some) (no far) =
-            far-held h (rw (lt-ltb 0 (lastOf E bs .events) some, le-ltb (lastOf E bs .since) gmin (omega arith))) (λ l. omega arith)
-        go (no none) near = far-held h (rw (le-ltb 0 (lastOf E bs .events) (omega arith))) (λ l. absurd (omega arith))
-
-    gain-inside : Inside (E + 1) (behind gmin bs E)
-    gain-inside = go (decLt 0 (lastOf E bs .events)) (decLt (lastOf E bs .since) gmin)
-      where
-        go : Dec (0 < lastOf E bs .events) → Dec (lastOf E bs .since < gmin) → Inside (E + 1) (behind gmin bs E)
-        go (yes some) (yes near) = near-last gmin E bs i some near .inside
-        go (yes some) (no far) = far-last gmin E bs i (λ l. omega arith) .inside
-        go (no none) near = far-last gmin E bs i (λ l. absurd (omega arith)) .inside
-
-  -- The tally of a trace.
   abbrev positions : List ℕ → List ℕ
   positions s = eventsAt (countsAs event) s
 
-  abbrev pub tallyOf : List ℕ → Tally
-  tallyOf s = holding (length s) (length (eventsAt (countsAs event) s)) (groups gmin (eventsAt (countsAs event) s))
+  -- what a tally holds after a trace
+  pub data Holds (s : List ℕ) (t : Tally) : Type 0 where
+    nothing : positions s ≡ [] → t ≡ none (length s) → Holds s t
+    open-at : (fs : List Group) (b : Group) → groups gmin (positions s) ≡ fs ++ b ∷ [] → t ≡ held (length s) (length (positions s)) fs b → Holds s t
 
-  abbrev pub AllInside : List ℕ → Type 0
-  AllInside s = Inside (length s) (groups gmin (eventsAt (countsAs event) s))
+  pub holds-fresh : Holds [] (fresh gmin spacing event)
+  unfolding fresh sumsOver burstsOf total eventsFrom
+  holds-fresh = nothing refl refl
 
-  one-more : (s : List ℕ) (packet : ℕ) → length (s ++ packet ∷ []) ≡ length s + 1
-  one-more s packet = length-append s (packet ∷ [])
+  pub holds-packets : (s : List ℕ) (t : Tally) → Holds s t → t .sums .packets ≡ length s
+  unfolding sumsOver
+  holds-packets s t (nothing p e) = rw e
+  holds-packets s t (open-at fs b g e) = rw e
 
-  -- the tally with its stretch counted in has the sums of the trace
-  pub counted-all : (s : List ℕ) → counted (tallyOf s) ≡ sumsOf (countsAs event) gmin spacing s
-  unfolding holding
-  counted-all s = sums-last spacing (length s) (length (positions s)) (length s) (groups gmin (positions s))
+  -- where the last group lies
+  last : (s : List ℕ) (fs : List Group) (b : Group) → groups gmin (positions s) ≡ fs ++ b ∷ [] → Last (length s) b
+  last s fs b g = last-group 0 (length s) fs b (rw (← g) (groups-some gmin (positions s))) (rw (← g) (groups-rise (countsAs event) gmin s))
 
-  pub none-held : fresh gmin spacing event ≡ tallyOf []
-  unfolding holding fresh sumsOver lastOf front groups eventsFrom bursts total
-  none-held = refl
+  -- its settings, and its stretch among the packets
+  pub record Set (t : Tally) : Type 0 where
+    pub gmin-is : t .gmin ≡ gmin
+    pub spacing-is : t .spacing ≡ spacing
+    pub within : openWithin (t .stretch) (t .sums .packets) ≡ true
 
-  pub none-inside : AllInside []
-  unfolding Inside groups eventsFrom
-  none-inside = omega arith
+  pub holds-set : (s : List ℕ) (t : Tally) → Holds s t → Set t
+  unfolding openWithin sumsOver
+  holds-set s t (nothing p e) =
+      rw e (record { gmin-is = refl; spacing-is = refl; within = rw (le-leb 0 (length s) (omega arith), le-leb (length s) (length s) (omega arith)) })
+  holds-set s t (open-at fs b g e) =
+      let l = last s fs b g in
+      rw e
+      (record {
+        gmin-is = refl;
+        spacing-is = refl;
+        within = rw (le-leb (length b) (length s) (omega arith), le-leb (packetsOf b) (length s) (omega arith), le-leb (between (lastOf b) (length s)) (length s) (omega arith));
+      })
 
-  record Held (s : List ℕ) (packet : ℕ) : Type 0 where
-    pub next : stepOf (tallyOf s) packet ≡ tallyOf (s ++ packet ∷ [])
-    pub inside : AllInside (s ++ packet ∷ [])
+  -- its sums, the stretch counted in, are those of the trace
+  pub holds-counted : (s : List ℕ) (t : Tally) → Holds s t → counted t ≡ sumsOf (countsAs event) gmin spacing s
+  unfolding countedIn groups
+  holds-counted s t (nothing p e) = rw (e, p)
+  holds-counted s t (open-at fs b g e) = rw (e, g) (sums-last spacing (length s) (length (positions s)) (length s) fs b)
 
-  step-held : (s : List ℕ) (packet : ℕ) → AllInside s → Held s packet
-  step-held s packet i = go (countsAs event packet) refl
-    where
-      go : (t : Bool) → countsAs event packet ≡ t → Held s packet
-      go true h =
-          let p = more-event (countsAs event) s packet h in
-          let g = ap (groups gmin) p ∙ groups-behind gmin (positions s) (length s) in
-          record {
-            next = gain-held (length s) (length (positions s)) (groups gmin (positions s)) packet i h ∙ rw (one-more s packet, p, one-more (positions s) (length s), groups-behind gmin (positions s) (length s));
-            inside = rw (one-more s packet, g) (gain-inside (length s) (length (positions s)) (groups gmin (positions s)) packet i);
-          }
-      go false h =
-          let p = more-other (countsAs event) s packet h ∙ append-nil (positions s) in
-          record {
-            next = pass-held (length s) (length (positions s)) (groups gmin (positions s)) packet i h ∙ rw (one-more s packet, p);
-            inside = rw (one-more s packet, p) (pass-inside (length s) (groups gmin (positions s)) i);
-          }
+  -- one more packet
+  module _ (s : List ℕ) (packet : ℕ) where
+    abbrev E : ℕ
+    E = length s
 
-  -- packet after packet
-  pub all-held : (done rest : List ℕ) → AllInside done → stepAll (tallyOf done) rest ≡ tallyOf (done ++ rest)
-  unfolding stepAll
-  all-held done [] i = rw (append-nil done)
-  all-held done (packet ∷ rest) i =
-      let h = step-held done packet i in
-      rw (h .next) (all-held (done ++ packet ∷ []) rest (h .inside) ∙ ap (tallyOf) (append-snoc done packet rest))
+    abbrev next : List ℕ
+    next = s ++ packet ∷ []
+
+    one-more : (x : List ℕ) (p : ℕ) → length (x ++ p ∷ []) ≡ length x + 1
+    one-more x p = length-append x (p ∷ [])
+
+    more-events : positions next ≡ positions s ++ cond (countsAs event packet) (E ∷ []) []
+    unfolding eventsFrom
+    more-events = events-join (countsAs event) s (packet ∷ [])
+
+    module _ (h : countsAs event packet ≡ false) where
+      same-events : positions next ≡ positions s
+      same-events = more-events ∙ rw h (append-nil (positions s))
+
+      pass-nothing : positions s ≡ [] → Holds next (stepOf (none E) packet)
+      unfolding passed onePacket sumsOver
+      pass-nothing p = nothing (same-events ∙ p) (sym (passes (none E) packet h) ∙ rw (one-more s packet))
+
+      pass-held : (fs : List Group) (b : Group) → groups gmin (positions s) ≡ fs ++ b ∷ [] → Holds next (stepOf (held E (length (positions s)) fs b) packet)
+      unfolding passed onePacket sumsOver
+      pass-held fs b g =
+          let l = last s fs b g in
+          let since : between (lastOf b) (E + 1) ≡ between (lastOf b) E + 1 = omega arith in
+          open-at fs b (ap (groups gmin) same-events ∙ g) (sym (passes _ packet h) ∙ rw (one-more s packet, same-events, since))
+
+    module _ (h : countsAs event packet ≡ true) where
+      new-event : positions next ≡ positions s ++ E ∷ []
+      new-event = more-events ∙ rw h
+
+      new-groups : groups gmin (positions next) ≡ join gmin (groups gmin (positions s)) ((E ∷ []) ∷ [])
+      unfolding groups join meet
+      new-groups = ap (groups gmin) new-event ∙ groups-join gmin (positions s) (E ∷ [])
+
+      -- the event by itself is the open stretch
+      alone : stretchOf (E + 1) (E ∷ []) ≡ lone
+      unfolding firstOf lastOf
+      alone = let one : E - E + 1 ≡ 1 = omega arith in let none : between E (E + 1) ≡ 0 = omega arith in rw (one, none)
+
+      first-event : positions s ≡ [] → Holds next (stepOf (none E) packet)
+      unfolding groups join oneEvent joins sumsOver burstsOf
+      first-event p =
+          open-at [] (E ∷ []) (new-groups ∙ rw p)
+          (sym (begins (none E) packet (sumsOver spacing (E + 1) 1 []) h (rw (le-ltb 0 0 (omega arith))) (no-burst spacing _ _ (omega arith)))
+          ∙ rw (one-more s packet, new-event, p, alone))
+
+      module _ (fs : List Group) (b : Group) (g : groups gmin (positions s) ≡ fs ++ b ∷ []) where
+        abbrev t : Tally
+        t = held E (length (positions s)) fs b
+
+        events : length (positions next) ≡ length (positions s) + 1
+        events = ap length new-event ∙ one-more (positions s) E
+
+        near : between (lastOf b) E < gmin → Holds next (stepOf t packet)
+        unfolding meet firstOf lastOf joined oneEvent joins sumsOver
+        near n =
+            let l = last s fs b g in
+            let wide : E - firstOf b + 1 ≡ lastOf b - firstOf b + 1 + (between (lastOf b) E + 1) = omega arith in
+            let none : between E (E + 1) ≡ 0 = omega arith in
+            open-at fs (b ++ E ∷ []) (new-groups ∙ rw (g, join-last gmin fs b ((E ∷ []) ∷ []), lt-ltb (between (lastOf b) E) gmin n))
+            (sym (belongs t packet h (both (ltb 0 (length b)) (ltb (between (lastOf b) E) gmin) (lt-ltb _ _ (l .some)) (lt-ltb _ _ n)))
+            ∙ rw (one-more s packet, events, one-more b E, first-append b (E ∷ []) (l .some), last-append b (E ∷ []) (omega arith), wide, none))
+
+        far : gmin ≤ between (lastOf b) E → Holds next (stepOf t packet)
+        unfolding meet firstOf lastOf oneEvent joins sumsOver
+        far n =
+            let l = last s fs b g in
+            open-at (fs ++ b ∷ []) (E ∷ []) (new-groups ∙ rw (g, join-last gmin fs b ((E ∷ []) ∷ []), le-ltb (between (lastOf b) E) gmin n) (sym (append-snoc fs b ((E ∷ []) ∷ []))))
+            (sym (begins t packet (sumsOver spacing (E + 1) (length (positions s) + 1) (fs ++ b ∷ [])) h (rw (lt-ltb 0 (length b) (l .some), le-ltb (between (lastOf b) E) gmin n)) (sym (sums-last spacing (E + 1) (length (positions s) + 1) E fs b)))
+            ∙ rw (one-more s packet, events, alone))
+
+    pub holds-step : (t : Tally) → Holds s t → Holds next (stepOf t packet)
+    holds-step t (nothing p e) = rw e (go (countsAs event packet) refl)
+      where
+        go : (x : Bool) → countsAs event packet ≡ x → Holds next (stepOf (none E) packet)
+        go true h = first-event h p
+        go false h = pass-nothing h p
+    holds-step t (open-at fs b g e) = rw e (go (countsAs event packet) refl (decLt (between (lastOf b) E) gmin))
+      where
+        go : (x : Bool) → countsAs event packet ≡ x → Dec (between (lastOf b) E < gmin) → Holds next (stepOf (held E (length (positions s)) fs b) packet)
+        go true h (yes n) = near h fs b g n
+        go true h (no f) = far h fs b g (omega arith)
+        go false h d = pass-held h fs b g

@@ -1,6 +1,5 @@
 pub mod Limits
 pub mod Turns
 pub mod Holding
-pub mod Kept
 pub mod Reached
 pub mod Running

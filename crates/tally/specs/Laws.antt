@@ -8,9 +8,11 @@ use Rattle.trace.specs.declared.Event.{Event}
 use Rattle.refusal.specs.declared.Judged.the-variants.{Accepted as Judged·Accepted}
 use Rattle.trace.specs.Trace.{countsAs, judged}
 use Rattle.block.specs.Reading.{unavailable}
+use Rattle.bursts.specs.declared.Figures.{Figures}
 use Rattle.bursts.specs.declared.FiguresRead.the-variants.{Accepted as FiguresRead·Accepted}
 use Rattle.bursts.specs.Sums.{sumsOf}
 use Rattle.bursts.specs.Figures.{figuresOf}
+use Rattle.bursts.specs.Laws.{Right, Uncut}
 use Rattle.tally.specs.declared.Tally.{Tally}
 use Rattle.tally.specs.declared.Opened.the-variants.{Accepted}
 use Rattle.tally.specs.declared.Answer.the-variants.{Accepted as Answer·Accepted}
@@ -50,3 +52,8 @@ Closes-empty =
     (gmin spacing : ℕ) (event : Event) (t : Tally) → openOf gmin spacing event ≡ Accepted t →
     closeOf t
     ≡ FiguresRead·Accepted (record { «burst_rate» = unavailable; «gap_rate» = unavailable; «burst_mean» = unavailable; «burst_variance» = unavailable })
+
+-- What any tally closes with, also one that no trace leads to: a figure that could be measured is never sent as
+-- unavailable, and no subtraction in a formula was cut off at 0.
+abbrev pub Closes-right : Type 0
+Closes-right = (t : Tally) (f : Figures) → closeOf t ≡ FiguresRead·Accepted f → Right (counted t) f × Uncut (counted t)

@@ -145,7 +145,7 @@ takeAll t [] = t
 takeAll t (packet ∷ s) = takeAll (takeOne t packet .tally) s
 
 -- The tally of a whole trace, with what applies of the order line "Traces: 15, 10, 9, 14, 8".
-unfoldable pub overTrace : ℕ → ℕ → Event → List ℕ → Opened
-overTrace gmin spacing event s =
+unfoldable pub ofTrace : ℕ → ℕ → Event → List ℕ → Opened
+ofTrace gmin spacing event s =
     unless (burstInRange gmin spacing) (Refused setting)
     (ifAccepted (judged s) Refused (Accepted (takeAll (fresh gmin spacing event) s)))

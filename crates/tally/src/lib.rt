@@ -7,7 +7,7 @@ use refusal::Judged;
 use refusal::Refusal;
 use trace::Event;
 ghost use mathlib.Core.Path.{_≡_};
-ghost use Rattle.tally.specs.Tally.{fresh, openOf, countedIn, openWithin, sound, stepOf, takeOne, refusedWith, closeOf, overTrace};
+ghost use Rattle.tally.specs.Tally.{fresh, openOf, countedIn, openWithin, sound, stepOf, takeOne, refusedWith, closeOf, ofTrace};
 ghost use Rattle.tally.specs.Steps.{Room, Bounded, sumsWithin, bounded};
 
 // The last group of events, which the next event may join; its burst is not yet in the sums.
@@ -63,8 +63,8 @@ pub fn open(gmin: u32, spacing: u32, event: Event) -> Opened
 }
 
 // The tally that has taken a whole trace, packet after packet.
-pub fn over(trace: &[u8], gmin: u32, spacing: u32, event: Event) -> Opened
-    ensures { λ r. ⌜ r ≡ overTrace gmin spacing event (now (trace .entry)) ⌝ }
+pub fn of_trace(trace: &[u8], gmin: u32, spacing: u32, event: Event) -> Opened
+    ensures { λ r. ⌜ r ≡ ofTrace gmin spacing event (now (trace .entry)) ⌝ }
 {
     let Opened::Accepted(first) = open(gmin, spacing, event) else {
         return Opened::Refused(refusal::SETTING);
