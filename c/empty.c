@@ -57,6 +57,8 @@ static void check_traces(void)
     const uint8_t lost = 1;
 
     CHECK(refused(nuvaskoe_figures(NULL, 0, 16, 400, NUVASKOE_EVENT_LOST).refusal, NUVASKOE_REFUSAL_TRACE_LENGTH));
+    CHECK(refused(nuvaskoe_loss_of_trace(NULL, 0, 16, 400, 2, 1).refusal, NUVASKOE_REFUSAL_TRACE_LENGTH));
+    CHECK(refused(nuvaskoe_discard_of_trace(NULL, 0, 16, 400, 2, 1).refusal, NUVASKOE_REFUSAL_TRACE_LENGTH));
     CHECK(refused(nuvaskoe_effective_loss(NULL, 0, 1, 0).refusal, NUVASKOE_REFUSAL_TRACE_LENGTH));
     CHECK(refused(nuvaskoe_resend_plan(NULL, 0, 1, 0, NULL, 0).refusal, NUVASKOE_REFUSAL_TRACE_LENGTH));
     CHECK(refused(nuvaskoe_resend_plan(&lost, 1, 1, 0, NULL, 0).refusal, NUVASKOE_REFUSAL_BUFFER_SHORT));

@@ -220,6 +220,145 @@ static void check_blocks(void)
     CHECK(discard.burst_rate == 1 && discard.gap_rate == 32769);
 }
 
+static const nuvaskoe_loss_summary no_loss;
+static const nuvaskoe_discard_summary no_discard;
+
+static int same_loss(nuvaskoe_loss_summary one, nuvaskoe_loss_summary other)
+{
+    return one.flag == other.flag && one.source == other.source && one.burst_rate == other.burst_rate &&
+           one.gap_rate == other.gap_rate && one.burst_mean == other.burst_mean &&
+           one.burst_variance == other.burst_variance;
+}
+
+static int same_discard(nuvaskoe_discard_summary one, nuvaskoe_discard_summary other)
+{
+    return one.flag == other.flag && one.source == other.source && one.burst_rate == other.burst_rate &&
+           one.gap_rate == other.gap_rate;
+}
+
+/* A 17 is answered, for source 7 and with flag 3, and the 18 is all 0. */
+static int is_loss(nuvaskoe_summary answer, uint16_t burst, uint16_t gap, uint16_t mean, uint16_t variance)
+{
+    nuvaskoe_loss_summary expected = {3, 7, burst, gap, mean, variance};
+    return answer.refusal.number == NUVASKOE_OK && answer.refusal.place == 0 &&
+           answer.block_type == NUVASKOE_BLOCK_LOSS && same_loss(answer.loss, expected) &&
+           same_discard(answer.discard, no_discard);
+}
+
+/* An 18 is answered, in the same way. */
+static int is_discard(nuvaskoe_summary answer, uint16_t burst, uint16_t gap)
+{
+    nuvaskoe_discard_summary expected = {3, 7, burst, gap};
+    return answer.refusal.number == NUVASKOE_OK && answer.refusal.place == 0 &&
+           answer.block_type == NUVASKOE_BLOCK_DISCARD && same_discard(answer.discard, expected) &&
+           same_loss(answer.loss, no_loss);
+}
+
+static uint32_t loss_refusal(nuvaskoe_loss_summary block)
+{
+    uint8_t packet[24];
+    nuvaskoe_packet_new(1, packet, sizeof packet);
+    return nuvaskoe_packet_add_loss(packet, sizeof packet, block).refusal.number;
+}
+
+static uint32_t discard_refusal(nuvaskoe_discard_summary block)
+{
+    uint8_t packet[20];
+    nuvaskoe_packet_new(1, packet, sizeof packet);
+    return nuvaskoe_packet_add_discard(packet, sizeof packet, block).refusal.number;
+}
+
+/* A refused answer gives its number and place and two blocks that are all 0, which no packet takes. */
+static int no_block(nuvaskoe_summary answer, uint32_t number, size_t place)
+{
+    return answer.refusal.number == number && answer.refusal.place == place && answer.block_type == 0 &&
+           same_loss(answer.loss, no_loss) && same_discard(answer.discard, no_discard) &&
+           loss_refusal(answer.loss) == NUVASKOE_REFUSAL_BLOCK_VALUE &&
+           discard_refusal(answer.discard) == NUVASKOE_REFUSAL_BLOCK_VALUE;
+}
+
+/* A 17 is of the lost packets and an 18 of the discarded, also where a trace has both. */
+static void check_trace_blocks(void)
+{
+    static const uint8_t both[5] = {1, 1, 0, 0, 2};
+    static const uint8_t discarded[3] = {2, 2, 2};
+    CHECK(is_loss(nuvaskoe_loss_of_trace(p6, sizeof p6, 2, 1000, 7, 3), 26214, 5461, 2, 2));
+    CHECK(is_discard(nuvaskoe_discard_of_trace(p6, sizeof p6, 2, 1000, 7, 3), NUVASKOE_UNAVAILABLE, 0));
+    CHECK(is_loss(nuvaskoe_loss_of_trace(both, 5, 1, 1000, 7, 3), 32768, 0, 2, 0));
+    CHECK(is_discard(nuvaskoe_discard_of_trace(both, 5, 1, 1000, 7, 3), NUVASKOE_UNAVAILABLE, 6553));
+    CHECK(is_loss(nuvaskoe_loss_of_trace(discarded, 3, 16, 1000, 7, 3), NUVASKOE_UNAVAILABLE, 0, NUVASKOE_UNAVAILABLE, NUVASKOE_UNAVAILABLE));
+    CHECK(is_discard(nuvaskoe_discard_of_trace(discarded, 3, 16, 1000, 7, 3), 32768, NUVASKOE_UNAVAILABLE));
+    CHECK(is_loss(nuvaskoe_loss_of_trace(both, 1, 16, 1000, 7, 3), NUVASKOE_UNAVAILABLE, 32768, NUVASKOE_UNAVAILABLE, NUVASKOE_UNAVAILABLE));
+    memset(longest, 1, sizeof longest);
+    CHECK(is_loss(nuvaskoe_loss_of_trace(longest, NUVASKOE_TRACE_MAX, 255, 40000, 7, 3), 32768, NUVASKOE_UNAVAILABLE, NUVASKOE_OVER_RANGE, 0));
+}
+
+static void check_trace_blocks_refused(void)
+{
+    static const uint8_t bad[4] = {0, 2, 3, 255};
+    static const uint32_t settings[4][2] = {{0, 1000}, {256, 1000}, {2, 0}, {2, 40001}};
+    size_t i;
+    for (i = 0; i < 4; i++) {
+        uint32_t gmin = settings[i][0];
+        uint32_t spacing = settings[i][1];
+        CHECK(no_block(nuvaskoe_loss_of_trace(p6, sizeof p6, gmin, spacing, 7, 3), NUVASKOE_REFUSAL_SETTING, 0));
+        CHECK(no_block(nuvaskoe_loss_of_trace(bad, 0, gmin, spacing, 7, 3), NUVASKOE_REFUSAL_SETTING, 0));
+        CHECK(no_block(nuvaskoe_discard_of_trace(p6, sizeof p6, gmin, spacing, 7, 3), NUVASKOE_REFUSAL_SETTING, 0));
+        CHECK(no_block(nuvaskoe_discard_of_trace(bad, 0, gmin, spacing, 7, 3), NUVASKOE_REFUSAL_SETTING, 0));
+    }
+    memset(longest, 3, sizeof longest);
+    CHECK(no_block(nuvaskoe_loss_of_trace(bad, 0, 2, 1000, 7, 3), NUVASKOE_REFUSAL_TRACE_LENGTH, 0));
+    CHECK(no_block(nuvaskoe_loss_of_trace(longest, sizeof longest, 2, 1000, 7, 3), NUVASKOE_REFUSAL_TRACE_LENGTH, 0));
+    CHECK(no_block(nuvaskoe_loss_of_trace(bad, 4, 2, 1000, 7, 3), NUVASKOE_REFUSAL_TRACE_BYTE, 2));
+    CHECK(no_block(nuvaskoe_discard_of_trace(bad, 0, 2, 1000, 7, 3), NUVASKOE_REFUSAL_TRACE_LENGTH, 0));
+    CHECK(no_block(nuvaskoe_discard_of_trace(longest, sizeof longest, 2, 1000, 7, 3), NUVASKOE_REFUSAL_TRACE_LENGTH, 0));
+    CHECK(no_block(nuvaskoe_discard_of_trace(bad, 4, 2, 1000, 7, 3), NUVASKOE_REFUSAL_TRACE_BYTE, 2));
+}
+
+/* The kind of a tally's block is that of its event, and an event that is none has no kind. */
+static void check_tally_block(void)
+{
+    static const uint32_t events[5] = {0, 3, 257, 0x10001, UINT32_MAX};
+    nuvaskoe_tally tally = odd_tally();
+    size_t i;
+    CHECK(is_loss(nuvaskoe_tally_block(tally, 7, 3), 25746, 0, 5, 1));
+    tally.event = NUVASKOE_EVENT_DISCARDED;
+    CHECK(is_discard(nuvaskoe_tally_block(tally, 7, 3), 25746, 0));
+    for (i = 0; i < 5; i++) {
+        tally.event = events[i];
+        CHECK(no_block(nuvaskoe_tally_block(tally, 7, 3), NUVASKOE_REFUSAL_SETTING, 0));
+    }
+    for (i = 1; i <= 2; i++) {
+        tally = nuvaskoe_tally_open(16, 1000, (uint32_t)i).tally;
+        CHECK(nuvaskoe_tally_block(tally, 7, 3).refusal.number == NUVASKOE_OK);
+        tally.spacing = 40001;
+        CHECK(no_block(nuvaskoe_tally_block(tally, 7, 3), NUVASKOE_REFUSAL_SETTING, 0));
+        tally = odd_tally();
+        tally.event = (uint32_t)i;
+        tally.sums.squares = UINT64_MAX;
+        CHECK(no_block(nuvaskoe_tally_block(tally, 7, 3), NUVASKOE_REFUSAL_SETTING, 0));
+    }
+}
+
+/* Source and flag are as given, and no flag is refused; a packet takes 1, 2 and 3, and refuses any other with 16. */
+static void check_flags(void)
+{
+    nuvaskoe_tally tally = odd_tally();
+    unsigned i;
+    for (i = 0; i < 256; i++) {
+        uint8_t flag = (uint8_t)i;
+        uint32_t added = i >= 1 && i <= 3 ? NUVASKOE_OK : NUVASKOE_REFUSAL_BLOCK_VALUE;
+        nuvaskoe_summary lost = nuvaskoe_loss_of_trace(p6, sizeof p6, 2, 1000, UINT32_MAX, flag);
+        nuvaskoe_summary discarded = nuvaskoe_discard_of_trace(p6, sizeof p6, 2, 1000, UINT32_MAX, flag);
+        nuvaskoe_summary tallied = nuvaskoe_tally_block(tally, UINT32_MAX, flag);
+        CHECK(lost.refusal.number == NUVASKOE_OK && lost.loss.flag == flag && lost.loss.source == UINT32_MAX);
+        CHECK(discarded.refusal.number == NUVASKOE_OK && discarded.discard.flag == flag && discarded.discard.source == UINT32_MAX);
+        CHECK(tallied.refusal.number == NUVASKOE_OK && tallied.loss.flag == flag && tallied.loss.source == UINT32_MAX);
+        CHECK(loss_refusal(lost.loss) == added && loss_refusal(tallied.loss) == added);
+        CHECK(discard_refusal(discarded.discard) == added);
+    }
+}
+
 int main(void)
 {
     check_figures();
@@ -228,5 +367,9 @@ int main(void)
     check_tally();
     check_tally_refused();
     check_blocks();
+    check_trace_blocks();
+    check_trace_blocks_refused();
+    check_tally_block();
+    check_flags();
     return checked("figures.c");
 }

@@ -26,7 +26,7 @@ int main(int count, char **words)
     const char *text = count > 1 ? words[1] : "00200003000010100094";
     nuvaskoe_card card = nuvaskoe_card_read((const uint8_t *)text, strlen(text));
     nuvaskoe_settings set = card.settings;
-    nuvaskoe_figured lost;
+    nuvaskoe_summary lost;
     nuvaskoe_loss loss;
     nuvaskoe_marks plan;
     uint8_t marks[sizeof trace], packet[64];
@@ -36,19 +36,19 @@ int main(int count, char **words)
     if (told("card", card.refusal)) {
         return 1;
     }
-    lost = nuvaskoe_figures(trace, sizeof trace, set.gmin, set.spacing, NUVASKOE_EVENT_LOST);
+    lost = nuvaskoe_loss_of_trace(trace, sizeof trace, set.gmin, set.spacing, span.source, 2);
     loss = nuvaskoe_effective_loss(trace, sizeof trace, set.batch, set.threshold);
     plan = nuvaskoe_resend_plan(trace, sizeof trace, set.batch, set.threshold, marks, sizeof marks);
-    if (told("figures", lost.refusal) || told("effective loss", loss.refusal) || told("plan", plan.refusal)) {
+    if (told("block 17", lost.refusal) || told("effective loss", loss.refusal) || told("plan", plan.refusal)) {
         return 1;
     }
-    printf("burst rate %u of %u, mean %u ms\n", lost.figures.burst_rate, NUVASKOE_RATE_MAX, lost.figures.burst_mean);
+    printf("burst rate %u of %u, mean %u ms\n", lost.loss.burst_rate, NUVASKOE_RATE_MAX, lost.loss.burst_mean);
     printf("%zu of %zu batches over, index %u\n", loss.over, loss.batches, (unsigned)loss.index);
     printf("%zu to resend\n", plan.marks);
 
     nuvaskoe_packet_new(1, packet, sizeof packet);
     nuvaskoe_packet_add_measurement(packet, sizeof packet, span);
-    written = nuvaskoe_packet_add_loss(packet, sizeof packet, nuvaskoe_loss_block(lost.figures, span.source, 2));
+    written = nuvaskoe_packet_add_loss(packet, sizeof packet, lost.loss);
     if (told("packet", written.refusal)) {
         return 1;
     }

@@ -348,8 +348,30 @@ nuvaskoe_figured nuvaskoe_figures(const uint8_t *trace, size_t trace_len, uint32
                                   uint32_t event);
 
 /*
- * The block 17 with these figures, source and interval flag, each as given. Adding it to a packet is not refused with
- * 16 where the figures were measured and the flag is 1, 2 or 3.
+ * The answer of a call that makes the block of a measurement. A block that is not filled is all 0, and adding it to a
+ * packet is refused with 16.
+ */
+typedef struct nuvaskoe_summary {
+    nuvaskoe_refusal refusal;
+    uint32_t block_type; /* NUVASKOE_BLOCK_LOSS or NUVASKOE_BLOCK_DISCARD: the block that is filled; 0 where refused */
+    nuvaskoe_loss_summary loss;
+    nuvaskoe_discard_summary discard;
+} nuvaskoe_summary;
+
+/*
+ * The block 17 of a whole trace: the figures of its lost packets, with this source and interval flag. Refusals as of
+ * nuvaskoe_figures. Adding the block to a packet is not refused with 16 where the flag is 1, 2 or 3.
+ */
+nuvaskoe_summary nuvaskoe_loss_of_trace(const uint8_t *trace, size_t trace_len, uint32_t gmin, uint32_t spacing,
+                                        uint32_t source, uint8_t flag);
+
+/* The block 18 of a whole trace: the figures of its discarded packets, in the same way. */
+nuvaskoe_summary nuvaskoe_discard_of_trace(const uint8_t *trace, size_t trace_len, uint32_t gmin, uint32_t spacing,
+                                           uint32_t source, uint8_t flag);
+
+/*
+ * The block 17 with these figures, source and interval flag, each as given. Nothing looks at where
+ * the figures come from: a block that was measured comes from nuvaskoe_loss_of_trace or nuvaskoe_tally_block.
  */
 nuvaskoe_loss_summary nuvaskoe_loss_block(nuvaskoe_burst_figures figures, uint32_t source, uint8_t flag);
 
@@ -404,6 +426,12 @@ nuvaskoe_tallied nuvaskoe_tally_take(nuvaskoe_tally tally, uint8_t packet);
 
 /* The figures of all packets taken, each unavailable where there was none. Refusal: 15. */
 nuvaskoe_figured nuvaskoe_tally_close(nuvaskoe_tally tally);
+
+/*
+ * The block of all packets taken, with this source and interval flag: a 17 of a tally that counts lost packets, an 18 of
+ * one that counts discarded ones. Refusal: 15.
+ */
+nuvaskoe_summary nuvaskoe_tally_block(nuvaskoe_tally tally, uint32_t source, uint8_t flag);
 
 /*
  * Batches: all runs of `batch` consecutive packets of a trace. A discarded packet is no loss. A batch is over the

@@ -12,7 +12,7 @@ import sys
 
 sys.dont_write_bytecode = True  # a run leaves no files in the tree
 import document01
-from document01 import Refused
+from document01 import DISCARDED, LOST, Refused
 
 PROGRAM = ["cargo", "run", "--offline", "--quiet", "--example", "cases"]
 SHOWN_BYTES, SHOWN_ENTRIES = 64, 16
@@ -33,7 +33,8 @@ NUMBERS = {
     "add241": ("source begin end streams c1 c2 c3 c4 c5 c6 c7 c8 LEN", "bytes"),
     "card": ("", "card"), "write": ("gmin batch threshold spacing ROOM", None),
     "figures": ("event gmin spacing LEN", "trace"), "tally": ("event gmin spacing LEN", "trace"),
-    "close": (TALLY, None), "take": (TALLY + " packet", None),
+    "loss17": ("gmin spacing source flag LEN", "trace"), "discard18": ("gmin spacing source flag LEN", "trace"),
+    "close": (TALLY, None), "tallyblock": (TALLY + " source flag", None), "take": (TALLY + " packet", None),
     "loss": ("B T LEN", "trace"), "plan": ("B T ROOM LEN", "trace"),
 }
 # Type, whether a flag comes first, where the rates stand, and the words after the first as struct has them.
@@ -153,10 +154,16 @@ def asking(word, numbers, data):
         return document01.loss(numbers[0], numbers[1], data)
     if word == "figures":
         return document01.figures(*numbers[:3], data)
+    if word == "loss17":
+        return document01.block_of_trace(LOST, *numbers[:4], data)
+    if word == "discard18":
+        return document01.block_of_trace(DISCARDED, *numbers[:4], data)
     if word == "tally":
         return document01.tally(*numbers[:3], data)
     if word == "close":
         return document01.close(numbers[1], numbers[2], numbers[3:])
+    if word == "tallyblock":
+        return document01.block_of_tally(*numbers[:3], numbers[3:13], *numbers[13:])
     return "taken " + " ".join(str(count) for count in document01.take(*numbers[:3], numbers[3:13], numbers[13]))
 
 

@@ -11,6 +11,7 @@ WORDS = {14: 7, 17: 3, 18: 2, 240: 2, 241: 11}
 UNAVAILABLE, OVER_RANGE, GREATEST = 65535, 65534, 65533
 MOST_PACKETS = 65536
 MOST_DURATION = 2621440
+LOST, DISCARDED = 1, 2  # the events, by the packets of a trace that they count
 
 
 class Refused(Exception):
@@ -203,6 +204,7 @@ def sums(trace, event, gmin, spacing):
 
 
 def figures_of(E, L, Eb, Lb, n, S, Q):
+    """Burst rate, gap rate, mean and variance, as a listing has them."""
     burst = Lb * 32768 // Eb if Eb else UNAVAILABLE
     gap = (L - Lb) * 32768 // (E - Eb) if E != Eb else UNAVAILABLE
     mean = variance = UNAVAILABLE
@@ -211,13 +213,31 @@ def figures_of(E, L, Eb, Lb, n, S, Q):
         v = Q // n - m * m
         mean = m if m <= GREATEST else OVER_RANGE
         variance = v if v <= GREATEST else OVER_RANGE
-    return f"burst {figure(burst)} gap {figure(gap)} mean {figure(mean)} var {figure(variance)}"
+    return [figure(number) for number in (burst, gap, mean, variance)]
+
+
+def figures_text(counts):
+    return "burst {} gap {} mean {} var {}".format(*figures_of(*counts))
 
 
 def figures(event, gmin, spacing, trace):
     burst_settings(gmin, spacing)
     accepted(trace)
-    return figures_of(*sums(trace, event, gmin, spacing))
+    return figures_text(sums(trace, event, gmin, spacing))
+
+
+def summary_text(event, counts, source, flag):
+    """The listing's line, without its number, of the block whose events these are: 17 the lost, 18 the discarded. A block 18
+    has no mean and no variance. The flag is as given: a bad one is refused where the block is added."""
+    burst, gap, mean, variance = figures_of(*counts)
+    rates = f"source {source:08x} i {flag} burst {burst} gap {gap}"
+    return f"loss {rates} mean {mean} var {variance}" if event == LOST else f"discard {rates}"
+
+
+def block_of_trace(event, gmin, spacing, source, flag, trace):
+    burst_settings(gmin, spacing)
+    accepted(trace)
+    return summary_text(event, sums(trace, event, gmin, spacing), source, flag)
 
 
 # A tally: E, L, Eb, Lb, n, S, Q over closed bursts, then events, packets and packets since of the open stretch
@@ -227,7 +247,7 @@ def tally(event, gmin, spacing, trace):
     burst_settings(gmin, spacing)
     refuse_if(any(packet > 2 for packet in trace[:MOST_PACKETS]), 9)
     refuse_if(len(trace) > MOST_PACKETS, 10)
-    return figures_of(*sums(trace, event, gmin, spacing))
+    return figures_text(sums(trace, event, gmin, spacing))
 
 
 def with_stretch(spacing, counts):
@@ -259,7 +279,12 @@ def sound(gmin, spacing, counts):
 
 def close(gmin, spacing, counts):
     refuse_if(not sound(gmin, spacing, counts), 15)
-    return figures_of(*with_stretch(spacing, counts))
+    return figures_text(with_stretch(spacing, counts))
+
+
+def block_of_tally(event, gmin, spacing, counts, source, flag):
+    refuse_if(not sound(gmin, spacing, counts), 15)
+    return summary_text(event, with_stretch(spacing, counts), source, flag)
 
 
 def take(event, gmin, spacing, counts, packet):

@@ -17,7 +17,10 @@ fn main() {
     };
     let archive = directory.join(ARCHIVE);
     let Ok(archive) = archive.canonicalize() else {
-        panic!("no {}: run make in the root of the repository", archive.display());
+        panic!(
+            "no {}: run make in the root of the repository",
+            archive.display()
+        );
     };
     println!("cargo:rerun-if-changed={}", archive.display());
     let directory = archive.parent().expect("an archive lies in a directory");

@@ -75,8 +75,8 @@ pub extern "C" fn nuvaskoe_figures(trace: &[u8], gmin: u32, spacing: u32, event:
     }
 }
 
-// The block 17 with these figures, source and interval flag, each as given. Adding it to a packet is not refused with
-// 16 where the figures were measured and the flag is 1, 2 or 3.
+// The block 17 with these figures, source and interval flag, each as given. Nothing looks at where
+// the figures come from: a block that was measured comes from nuvaskoe_loss_of_trace or nuvaskoe_tally_block.
 #[no_mangle]
 pub extern "C" fn nuvaskoe_loss_block(figures: Figures, source: u32, flag: u8) -> LossSummary
     ensures { λ r. ⌜ r ≡ lossBlock figures source flag ⌝ }

@@ -9,12 +9,15 @@ use Rattle.settings.specs.Ranges.{burstInRange}
 use Rattle.block.specs.declared.LossSummary.{LossSummary}
 use Rattle.block.specs.declared.DiscardSummary.{DiscardSummary}
 use Rattle.trace.specs.declared.Event.{Event}
+use Rattle.trace.specs.declared.Event.the-variants.{Lost, Discarded}
 use Rattle.trace.specs.Trace.{countsAs, judged}
 use Rattle.bursts.specs.declared.Figures.{Figures}
 use Rattle.bursts.specs.declared.FiguresRead.{FiguresRead}
 use Rattle.bursts.specs.declared.FiguresRead.the-variants.{Accepted, Refused}
 use Rattle.bursts.specs.Sums.{sumsOf}
 use Rattle.bursts.specs.Figures.{figuresOf}
+use Rattle.figures.specs.declared.Summary.{Summary}
+use Rattle.figures.specs.declared.Summary.the-variants.{Loss, Discard, Refused as Summary·Refused}
 
 unfoldable pub figuresIn : ℕ → ℕ → Event → List ℕ → FiguresRead
 figuresIn gmin spacing event s =
@@ -35,3 +38,13 @@ lossBlock f source flag =
 abbrev pub discardBlock : Figures → ℕ → ℕ → DiscardSummary
 discardBlock f source flag =
     record { flag = flag; source = source; «burst_rate» = f .«burst_rate»; «gap_rate» = f .«gap_rate» }
+
+-- "For block 17 the events are the lost packets, for block 18 the discarded"
+abbrev pub blockFor : Event → ℕ → ℕ → Figures → Summary
+blockFor Lost source flag f = Loss (lossBlock f source flag)
+blockFor Discarded source flag f = Discard (discardBlock f source flag)
+
+-- the block of what was measured, or its refusal
+abbrev pub summaryOf : Event → ℕ → ℕ → FiguresRead → Summary
+summaryOf event source flag (Accepted f) = blockFor event source flag f
+summaryOf event source flag (Refused r) = Summary·Refused r

@@ -6,7 +6,7 @@ pub enum Block {
     Measurement(Measurement),
     Loss(Loss),
     Discard(Discard),
-    EffectiveLoss(EffectiveLoss),
+    Effective(Effective),
     TransportStream(TransportStream),
 }
 
@@ -44,7 +44,7 @@ pub struct Discard {
 
 /// Block 240.
 #[derive(Debug, Clone, Copy, PartialEq, Eq)]
-pub struct EffectiveLoss {
+pub struct Effective {
     pub source: u32,
     pub index: u16,
 }
@@ -133,7 +133,7 @@ pub fn read(block_type: u8, specific: u8, body: &[u8]) -> Reading {
         14 => Block::Measurement(measurement(body)),
         17 => Block::Loss(loss(flag, body)),
         18 => Block::Discard(discard(flag, body)),
-        240 => Block::EffectiveLoss(effective_loss(body)),
+        240 => Block::Effective(effective_loss(body)),
         _ => Block::TransportStream(transport_stream(body)),
     })
 }
@@ -176,8 +176,8 @@ fn discard(flag: u8, body: &[u8]) -> Discard {
     }
 }
 
-fn effective_loss(body: &[u8]) -> EffectiveLoss {
-    EffectiveLoss {
+fn effective_loss(body: &[u8]) -> Effective {
+    Effective {
         source: word(body, 0),
         // Before 16 reserved bits.
         index: half(body, 4),

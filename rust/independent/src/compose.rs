@@ -46,7 +46,7 @@ pub fn encode(block: &Block) -> (u8, u8, Vec<u8>) {
         Block::Measurement(_) => (14, 0),
         Block::Loss(loss) => (17, loss.flag << 6),
         Block::Discard(discard) => (18, discard.flag << 6),
-        Block::EffectiveLoss(_) => (240, 0),
+        Block::Effective(_) => (240, 0),
         Block::TransportStream(_) => (241, 0),
     };
     (block_type, specific, write_body(block))
@@ -70,7 +70,7 @@ pub fn write_body(block: &Block) -> Vec<u8> {
             halves(block.mean, block.variance),
         ]),
         Block::Discard(block) => words(&[block.source, halves(block.burst_rate, block.gap_rate)]),
-        Block::EffectiveLoss(block) => words(&[block.source, halves(block.index, 0)]),
+        Block::Effective(block) => words(&[block.source, halves(block.index, 0)]),
         Block::TransportStream(block) => {
             let first = [block.source, halves(block.begin, block.end), block.streams];
             words(&[&first[..], &block.counts].concat())

@@ -13,5 +13,6 @@ pub mod late_tally;
 pub mod packet;
 pub mod refusal;
 pub mod resend;
+pub mod summary;
 pub mod tally;
 pub mod trace;

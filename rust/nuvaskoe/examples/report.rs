@@ -1,8 +1,8 @@
 //! A report on a measured trace: settings from a card, figures and effective loss in a packet,
 //! the packet's blocks listed, and how many packets to resend. It asserts what it prints.
 
-use nuvaskoe::block::{Block, EffectiveLoss, Measurement, Verdict};
-use nuvaskoe::{card, effective, figures, packet, resend, trace::Event, Refusal};
+use nuvaskoe::block::{Block, Effective, Measurement, Verdict};
+use nuvaskoe::{card, effective, figures, packet, resend, Refusal};
 
 const CARD: &[u8] = b"00200003000010100094";
 const TRACE: [u8; 16] = [0, 1, 1, 0, 1, 0, 1, 0, 0, 2, 0, 0, 0, 0, 0, 0];
@@ -27,14 +27,14 @@ resend 2
 
 fn main() -> Result<(), Refusal> {
     let card = card::read(CARD)?;
-    let lost = figures::of_trace(&TRACE, card.gmin, card.spacing, Event::Lost)?;
-    let discarded = figures::of_trace(&TRACE, card.gmin, card.spacing, Event::Discarded)?;
+    let lost = figures::loss_of_trace(&TRACE, card.gmin, card.spacing, SOURCE, 3)?;
+    let discarded = figures::discard_of_trace(&TRACE, card.gmin, card.spacing, SOURCE, 3)?;
     let loss = effective::effective_loss(&TRACE, card.batch, card.threshold)?;
     let blocks = [
         SPAN,
-        lost.loss_block(SOURCE, 3),
-        discarded.discard_block(SOURCE, 3),
-        Block::EffectiveLoss(EffectiveLoss {
+        Block::Loss(lost),
+        Block::Discard(discarded),
+        Block::Effective(Effective {
             source: SOURCE,
             index: loss.index,
         }),
@@ -63,7 +63,7 @@ fn line(block: packet::PacketBlock<'_>) -> String {
             let (burst, gap) = (discard.burst_rate, discard.gap_rate);
             format!("discard burst {burst} gap {gap}")
         }
-        Verdict::Typed(Block::EffectiveLoss(loss)) => format!("effective loss {}", loss.index),
+        Verdict::Typed(Block::Effective(loss)) => format!("effective loss {}", loss.index),
         Verdict::Dropped(reason) => format!("dropped, {}", reason.meaning()),
         _ => {
             let (block_type, bytes) = (block.reading.block_type, block.body.len());

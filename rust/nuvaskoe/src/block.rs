@@ -19,7 +19,7 @@ pub enum Block {
     /// Type 18.
     Discard(Discard),
     /// Type 240.
-    EffectiveLoss(EffectiveLoss),
+    Effective(Effective),
     /// Type 241.
     TransportStream(TransportStream),
 }
@@ -75,7 +75,7 @@ pub struct Discard {
 
 /// Effective loss.
 #[derive(Debug, Clone, Copy, PartialEq, Eq)]
-pub struct EffectiveLoss {
+pub struct Effective {
     /// The measured source.
     pub source: u32,
     /// Effective loss index.

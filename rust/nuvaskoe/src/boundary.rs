@@ -157,6 +157,15 @@ pub(crate) struct Figured {
 
 #[repr(C)]
 #[derive(Debug, Clone, Copy, PartialEq, Eq)]
+pub(crate) struct Summary {
+    pub(crate) refusal: Refusal,
+    pub(crate) block_type: u32,
+    pub(crate) loss: LossSummary,
+    pub(crate) discard: DiscardSummary,
+}
+
+#[repr(C)]
+#[derive(Debug, Clone, Copy, PartialEq, Eq)]
 pub(crate) struct Sums {
     pub(crate) packets: u64,
     pub(crate) events: u64,
@@ -231,6 +240,9 @@ extern "C" {
     pub(crate) fn nuvaskoe_tally_open(gmin: u32, spacing: u32, event: u32) -> Tallied;
     pub(crate) fn nuvaskoe_tally_take(tally: Tally, packet: u8) -> Tallied;
     pub(crate) fn nuvaskoe_tally_close(tally: Tally) -> Figured;
+    pub(crate) fn nuvaskoe_loss_of_trace(trace: *const u8, trace_len: usize, gmin: u32, spacing: u32, source: u32, flag: u8) -> Summary;
+    pub(crate) fn nuvaskoe_discard_of_trace(trace: *const u8, trace_len: usize, gmin: u32, spacing: u32, source: u32, flag: u8) -> Summary;
+    pub(crate) fn nuvaskoe_tally_block(tally: Tally, source: u32, flag: u8) -> Summary;
     pub(crate) fn nuvaskoe_effective_loss(trace: *const u8, trace_len: usize, batch: u32, threshold: u32) -> Loss;
     pub(crate) fn nuvaskoe_resend_plan(trace: *const u8, trace_len: usize, batch: u32, threshold: u32, out: *mut u8, out_len: usize) -> Marks;
 }
@@ -259,6 +271,7 @@ pub(crate) const LAYOUTS: &[Layout] = &[
     layout!("nuvaskoe_stream_counts", StreamCounts { source: u32, begin: u16, end: u16, streams: u32, sync_losses: u32, sync_byte_errors: u32, continuity_errors: u32, transport_errors: u32, pcr_errors: u32, pcr_repetition_errors: u32, pcr_discontinuity_errors: u32, pts_errors: u32 }),
     layout!("nuvaskoe_burst_figures", BurstFigures { burst_rate: u16, gap_rate: u16, burst_mean: u16, burst_variance: u16 }),
     layout!("nuvaskoe_figured", Figured { refusal: Refusal, figures: BurstFigures }),
+    layout!("nuvaskoe_summary", Summary { refusal: Refusal, block_type: u32, loss: LossSummary, discard: DiscardSummary }),
     layout!("nuvaskoe_sums", Sums { packets: u64, events: u64, burst_packets: u64, burst_events: u64, bursts: u64, durations: u64, squares: u64 }),
     layout!("nuvaskoe_stretch", Stretch { events: u64, packets: u64, since: u64 }),
     layout!("nuvaskoe_tally", Tally { gmin: u32, spacing: u32, event: u32, sums: Sums, stretch: Stretch }),

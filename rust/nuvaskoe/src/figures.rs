@@ -43,6 +43,66 @@ pub fn of_trace(trace: &[u8], gmin: u32, spacing: u32, event: Event) -> Result<F
     measured(answer)
 }
 
+/// The block 17 of a whole trace: the figures of its lost packets, with this source and
+/// interval flag. [`crate::packet::add`] does not refuse it with 16 where the flag is 1, 2 or 3.
+///
+/// Refusals as of [`of_trace`].
+///
+/// ```
+/// use nuvaskoe::{block::Block, figures, packet, values::{Figure, Rate}};
+///
+/// // The two discarded packets at the end are no loss.
+/// let loss = figures::loss_of_trace(&[1, 0, 1, 0, 0, 0, 2, 2], 2, 1_000, 7, 3)?;
+/// assert_eq!((loss.burst_rate, loss.gap_rate), (Rate(21_845), Rate(0)));
+/// assert_eq!((loss.mean, loss.variance), (Figure(3), Figure(0)));
+/// let mut buffer = [0; 24];
+/// packet::new(1, &mut buffer)?;
+/// assert_eq!(packet::add(&mut buffer, &Block::Loss(loss)), Ok(24));
+/// # Ok::<(), nuvaskoe::Refusal>(())
+/// ```
+pub fn loss_of_trace(
+    trace: &[u8],
+    gmin: u32,
+    spacing: u32,
+    source: u32,
+    flag: u8,
+) -> Result<Loss, Refusal> {
+    let (start, length) = (trace.as_ptr(), trace.len());
+    // SAFETY: a slice's pointer is never null and is good for reading its length.
+    let answer =
+        unsafe { boundary::nuvaskoe_loss_of_trace(start, length, gmin, spacing, source, flag) };
+    match reported(&answer)? {
+        Block::Loss(loss) => Ok(loss),
+        other => unreachable!("{other:?}"),
+    }
+}
+
+/// The block 18 of a whole trace: the figures of its discarded packets, in the same way.
+///
+/// ```
+/// use nuvaskoe::{figures, values::Rate};
+///
+/// let discard = figures::discard_of_trace(&[1, 0, 1, 0, 0, 0, 2, 2], 2, 1_000, 7, 3)?;
+/// assert_eq!((discard.burst_rate, discard.gap_rate), (Rate::ALL, Rate(0)));
+/// # Ok::<(), nuvaskoe::Refusal>(())
+/// ```
+pub fn discard_of_trace(
+    trace: &[u8],
+    gmin: u32,
+    spacing: u32,
+    source: u32,
+    flag: u8,
+) -> Result<Discard, Refusal> {
+    let (start, length) = (trace.as_ptr(), trace.len());
+    // SAFETY: a slice's pointer is never null and is good for reading its length.
+    let answer =
+        unsafe { boundary::nuvaskoe_discard_of_trace(start, length, gmin, spacing, source, flag) };
+    match reported(&answer)? {
+        Block::Discard(discard) => Ok(discard),
+        other => unreachable!("{other:?}"),
+    }
+}
+
 impl Figures {
     /// Figures that were measured elsewhere.
     pub fn new(burst_rate: Rate, gap_rate: Rate, mean: Figure, variance: Figure) -> Figures {
@@ -55,32 +115,24 @@ impl Figures {
     }
 
     /// The block 17 with these figures, whatever the flag: [`crate::packet::add`] takes 1, 2
-    /// and 3.
+    /// and 3. Nothing looks at where the figures come from, so that those of discarded packets
+    /// are taken as well: a block that was measured comes from [`loss_of_trace`] or
+    /// [`Tally::block`](crate::tally::Tally::block).
     #[inline]
     pub fn loss_block(&self, source: u32, flag: u8) -> Block {
         // SAFETY: it takes any numbers.
         let block = unsafe { boundary::nuvaskoe_loss_block(self.into(), source, flag) };
-        Block::Loss(Loss {
-            flag: block.flag,
-            source: block.source,
-            burst_rate: Rate(block.burst_rate),
-            gap_rate: Rate(block.gap_rate),
-            mean: Figure(block.burst_mean),
-            variance: Figure(block.burst_variance),
-        })
+        Block::Loss(block.into())
     }
 
-    /// The block 18 with these rates, in the same way; it has no mean and no variance.
+    /// The block 18 with these rates, in the same way; it has no mean and no variance. One that
+    /// was measured comes from [`discard_of_trace`] or
+    /// [`Tally::block`](crate::tally::Tally::block).
     #[inline]
     pub fn discard_block(&self, source: u32, flag: u8) -> Block {
         // SAFETY: it takes any numbers.
         let block = unsafe { boundary::nuvaskoe_discard_block(self.into(), source, flag) };
-        Block::Discard(Discard {
-            flag: block.flag,
-            source: block.source,
-            burst_rate: Rate(block.burst_rate),
-            gap_rate: Rate(block.gap_rate),
-        })
+        Block::Discard(block.into())
     }
 }
 
@@ -96,12 +148,45 @@ pub(crate) fn measured(answer: boundary::Figured) -> Result<Figures, Refusal> {
     answer.refusal.unless_refused(figures)
 }
 
+/// The block that an answer fills; the other is all 0, and both are where it is a refusal.
+#[inline]
+pub(crate) fn reported(answer: &boundary::Summary) -> Result<Block, Refusal> {
+    let (loss, discard) = (answer.loss, answer.discard);
+    debug_assert!(answer.refusal.number == 0 || answer.block_type == 0);
+    debug_assert!(answer.block_type == boundary::BLOCK_LOSS || loss == NO_LOSS);
+    debug_assert!(answer.block_type == boundary::BLOCK_DISCARD || discard == NO_DISCARD);
+    answer.refusal.unless_refused(())?;
+    Ok(match answer.block_type {
+        boundary::BLOCK_LOSS => Block::Loss(loss.into()),
+        boundary::BLOCK_DISCARD => Block::Discard(discard.into()),
+        other => unreachable!("measured block of type {other}"),
+    })
+}
+
 /// Those of a refused answer.
 const NONE: Figures = Figures {
     burst_rate: Rate::UNAVAILABLE,
     gap_rate: Rate::UNAVAILABLE,
     mean: Figure::UNAVAILABLE,
     variance: Figure::UNAVAILABLE,
+};
+
+/// A block 17 that is not filled.
+const NO_LOSS: boundary::LossSummary = boundary::LossSummary {
+    flag: 0,
+    source: 0,
+    burst_rate: 0,
+    gap_rate: 0,
+    burst_mean: 0,
+    burst_variance: 0,
+};
+
+/// A block 18 that is not filled.
+const NO_DISCARD: boundary::DiscardSummary = boundary::DiscardSummary {
+    flag: 0,
+    source: 0,
+    burst_rate: 0,
+    gap_rate: 0,
 };
 
 impl From<&Figures> for boundary::BurstFigures {

@@ -104,12 +104,12 @@ pub fn new(sender: u32, out: &mut [u8]) -> Result<usize, Refusal> {
 /// range; 17, the length field would pass 65,535; 8, no room for the block.
 ///
 /// ```
-/// use nuvaskoe::{block::{Block, EffectiveLoss, Verdict}, values::EffectiveIndex};
+/// use nuvaskoe::{block::{Block, Effective, Verdict}, values::EffectiveIndex};
 ///
 /// let mut buffer = [0; 64];
 /// nuvaskoe::packet::new(1, &mut buffer)?;
 /// let index = EffectiveIndex(37_448);
-/// let block = Block::EffectiveLoss(EffectiveLoss { source: 2, index });
+/// let block = Block::Effective(Effective { source: 2, index });
 /// let size = nuvaskoe::packet::add(&mut buffer, &block)?;
 /// assert_eq!(size, 20);
 /// let reading = nuvaskoe::packet::block(&buffer[..size], 0)?;
@@ -131,7 +131,7 @@ pub fn add(out: &mut [u8], block: &Block) -> Result<usize, Refusal> {
             Block::Discard(block) => {
                 boundary::nuvaskoe_packet_add_discard(start, length, block.into())
             }
-            Block::EffectiveLoss(block) => {
+            Block::Effective(block) => {
                 boundary::nuvaskoe_packet_add_effective(start, length, block.into())
             }
             Block::TransportStream(block) => {

@@ -1,8 +1,9 @@
 //! The tally of bursts and gaps, which takes the packets of a trace one after another.
 
 use crate::{
+    block::Block,
     boundary,
-    figures::{measured, Figures},
+    figures::{measured, reported, Figures},
     trace::Event,
     Refusal,
 };
@@ -122,6 +123,32 @@ impl Tally {
     pub fn close(self) -> Result<Figures, Refusal> {
         // SAFETY: it takes any numbers.
         measured(unsafe { boundary::nuvaskoe_tally_close((&self).into()) })
+    }
+
+    /// The block of all packets taken, with this source and interval flag: [`Block::Loss`] of a
+    /// tally that counts lost packets, [`Block::Discard`] of one that counts discarded ones.
+    /// [`crate::packet::add`] does not refuse it with 16 where the flag is 1, 2 or 3.
+    ///
+    /// Refusal: 15.
+    ///
+    /// ```
+    /// use nuvaskoe::{block::Block, tally::Tally, trace::Event, values::Rate};
+    ///
+    /// let tally = Tally::open(16, 1_000, Event::Discarded)?;
+    /// let (tally, answer) = tally.take(2);
+    /// answer?;
+    /// let Block::Discard(discard) = tally.block(7, 3)? else {
+    ///     unreachable!("it counts discarded packets");
+    /// };
+    /// assert_eq!((discard.source, discard.flag), (7, 3));
+    /// assert_eq!((discard.burst_rate, discard.gap_rate), (Rate::UNAVAILABLE, Rate::ALL));
+    /// # Ok::<(), nuvaskoe::Refusal>(())
+    /// ```
+    #[inline]
+    pub fn block(self, source: u32, flag: u8) -> Result<Block, Refusal> {
+        // SAFETY: it takes any numbers.
+        let answer = unsafe { boundary::nuvaskoe_tally_block((&self).into(), source, flag) };
+        reported(&answer)
     }
 
     /// The tally in an answer that has one.

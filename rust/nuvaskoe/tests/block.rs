@@ -102,7 +102,7 @@ fn every_mean_and_variance() {
 fn every_index() {
     for index in 0..=u16::MAX {
         let reading = alone_both(240, 0, &body_with(240, 4, index));
-        let Reading::Typed(Block::EffectiveLoss(loss)) = reading else {
+        let Reading::Typed(Block::Effective(loss)) = reading else {
             panic!("index {index}: {reading:?}");
         };
         assert_eq!(loss.index, index);

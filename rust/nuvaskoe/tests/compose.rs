@@ -3,7 +3,7 @@
 
 mod support;
 
-use independent::block::{Block, EffectiveLoss, Reading};
+use independent::block::{Block, Effective, Reading};
 use std::collections::BTreeSet;
 use support::{
     adding::{
@@ -53,7 +53,7 @@ fn new_packets() {
 #[test]
 fn example_p12() {
     let (_, mut buffer) = new_both(1, 20);
-    let block = Block::EffectiveLoss(EffectiveLoss {
+    let block = Block::Effective(Effective {
         source: 2,
         index: 37_448,
     });

@@ -77,7 +77,7 @@ fn every_other_half() {
                 Block::Measurement(block) => block.first = number,
                 Block::Loss(block) => (block.mean, block.variance) = (number, !number),
                 Block::Discard(_) => continue,
-                Block::EffectiveLoss(block) => block.index = number,
+                Block::Effective(block) => block.index = number,
                 Block::TransportStream(block) => (block.begin, block.end) = (number, !number),
             }
             let mut buffer = buffer(&packet(1, &[listed(14, 5)]), 100);

@@ -3,7 +3,7 @@
 
 mod support;
 
-use independent::block::{Block, EffectiveLoss, Reading};
+use independent::block::{Block, Effective, Reading};
 use std::collections::BTreeSet;
 use support::{
     compare::{block_both, body_both, compare, list_both, refused, verdicts},
@@ -30,7 +30,7 @@ fn drawn_enough() -> bool {
 #[test]
 fn example_p12() {
     assert_eq!(compare(&P12), Ok((1, 1)));
-    let loss = Block::EffectiveLoss(EffectiveLoss {
+    let loss = Block::Effective(Effective {
         source: 2,
         index: 37_448,
     });

@@ -55,7 +55,7 @@ fn blocks_17_and_18_with_each_flag() {
 #[test]
 fn block_240_has_no_reserved_index() {
     for index in [0, 37_448, 65_533, 65_534, 65_535] {
-        let expected = Block::EffectiveLoss(EffectiveLoss {
+        let expected = Block::Effective(Effective {
             source: 0x0102_0304,
             index,
         });

@@ -1,5 +1,5 @@
 use super::*;
-use crate::block::{Discard, EffectiveLoss, Loss, Measurement, Reading, Reason, TransportStream};
+use crate::block::{Discard, Effective, Loss, Measurement, Reading, Reason, TransportStream};
 
 const P12: [u8; 20] = [
     0x80, 0xCF, 0x00, 0x04, 0x00, 0x00, 0x00, 0x01, 0xF0, 0x00, 0x00, 0x02, 0x00, 0x00, 0x00, 0x02,
@@ -50,7 +50,7 @@ fn kinds() -> [Block; 5] {
 }
 
 const fn effective(index: u16) -> Block {
-    Block::EffectiveLoss(EffectiveLoss { source: 2, index })
+    Block::Effective(Effective { source: 2, index })
 }
 
 /// A buffer of `length` bytes 0xA5, with a packet of `words` words of one unknown block

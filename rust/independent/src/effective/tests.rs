@@ -40,7 +40,7 @@ fn p3() {
 fn p4() {
     assert_eq!(of("111", 1, 0), (3, 3, 65_535, Some(0)));
     let index = both(&trace("111"), 1, 0).unwrap().index;
-    let full = Block::EffectiveLoss(block::EffectiveLoss { source: 2, index });
+    let full = Block::Effective(block::Effective { source: 2, index });
     let (block_type, specific, body) = compose::encode(&full);
     let reading = block::read(block_type, specific, &body);
     assert_eq!(reading, block::Reading::Typed(full));

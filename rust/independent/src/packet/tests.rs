@@ -1,5 +1,5 @@
 use super::*;
-use crate::block::EffectiveLoss;
+use crate::block::Effective;
 
 const P12: [u8; 20] = [
     0x80, 0xCF, 0x00, 0x04, 0x00, 0x00, 0x00, 0x01, 0xF0, 0x00, 0x00, 0x02, 0x00, 0x00, 0x00, 0x02,
@@ -59,7 +59,7 @@ fn refused_by_all(packet: &[u8], refusal: Refusal) {
 
 #[test]
 fn p12() {
-    let loss = Block::EffectiveLoss(EffectiveLoss {
+    let loss = Block::Effective(Effective {
         source: 2,
         index: 37_448,
     });

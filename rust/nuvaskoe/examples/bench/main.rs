@@ -17,8 +17,8 @@
 //! - traces, a byte a packet: `figs` gives the burst figures, `plan` the resend plan and
 //!   `loss` effective loss; in rows "B x by B y" both times are ours, with batches of x and y;
 //! - tallies: `open`, `take` one packet and `close`, after as many packets as there are bytes
-//!   in the row; `tally` is all three over the trace named, each packet taken in turn; `block`
-//!   makes a block of figures.
+//!   in the row; `tally` is all three over the trace named, each packet taken in turn;
+//! - `block` makes the block of a trace, of a tally or of figures.
 
 #[path = "../../tests/support/mod.rs"]
 mod support;

@@ -1,17 +1,20 @@
-//! Traces measured.
+//! Traces measured, and their blocks.
 
 use super::{
     print, race,
     support::{
-        measuring::{figures_both, library_event, LONGEST},
+        measuring::{figures_both, library_event, trace_block_both, LONGEST},
         Random,
     },
 };
-use independent::{burst, trace::Event};
+use independent::{burst, summary, trace::Event};
+use nuvaskoe::figures;
 use std::hint::black_box;
 
 pub const GMIN: u32 = 16;
 pub const SPACING: u32 = 400;
+/// The source and the interval flag of a block.
+pub const REPORT: (u32, u8) = (5, 2);
 
 /// A trace as long as one may be, and its name.
 pub type Named = (&'static str, Vec<u8>);
@@ -20,6 +23,10 @@ pub fn time(traces: &[Named]) {
     for (name, trace) in traces {
         time_trace(name, trace);
     }
+    let (_, one_in_20) = &traces[0];
+    time_loss("5 % lost, its 17", one_in_20);
+    let discarded: Vec<u8> = one_in_20.iter().map(|packet| 2 * packet).collect();
+    time_discard("5 % discarded, its 18", &discarded);
 }
 
 /// The traces that are measured.
@@ -54,8 +61,30 @@ fn time_trace(name: &str, trace: &[u8]) {
     let event = library_event(Event::Lost);
     let (wide_gmin, wide_spacing) = (GMIN.into(), SPACING.into());
     let times = race(
-        || nuvaskoe::figures::of_trace(black_box(trace), GMIN, SPACING, event),
+        || figures::of_trace(black_box(trace), GMIN, SPACING, event),
         || burst::running_figures(black_box(trace), wide_gmin, wide_spacing, Event::Lost),
     );
     print(name, trace.len(), "figs", times);
+}
+
+fn time_loss(name: &str, trace: &[u8]) {
+    trace_block_both(trace, (GMIN, SPACING), Event::Lost, REPORT).expect("a good trace");
+    let (wide_gmin, wide_spacing) = (GMIN.into(), SPACING.into());
+    let (source, flag) = black_box(REPORT);
+    let times = race(
+        || figures::loss_of_trace(black_box(trace), GMIN, SPACING, source, flag),
+        || summary::loss_of_trace(black_box(trace), wide_gmin, wide_spacing, source, flag),
+    );
+    print(name, trace.len(), "block", times);
+}
+
+fn time_discard(name: &str, trace: &[u8]) {
+    trace_block_both(trace, (GMIN, SPACING), Event::Discarded, REPORT).expect("a good trace");
+    let (wide_gmin, wide_spacing) = (GMIN.into(), SPACING.into());
+    let (source, flag) = black_box(REPORT);
+    let times = race(
+        || figures::discard_of_trace(black_box(trace), GMIN, SPACING, source, flag),
+        || summary::discard_of_trace(black_box(trace), wide_gmin, wide_spacing, source, flag),
+    );
+    print(name, trace.len(), "block", times);
 }

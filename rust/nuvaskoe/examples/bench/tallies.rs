@@ -1,18 +1,20 @@
-//! Tallies opened, given a packet, closed, and run over a whole trace; blocks from figures.
+//! Tallies opened, given a packet, closed, and run over a whole trace; blocks of a tally and from
+//! figures.
 
 use super::{
-    measuring::{Named, GMIN, SPACING},
+    measuring::{Named, GMIN, REPORT, SPACING},
     print, race,
     support::{
         measuring::{
             discard_block_both, figures_both, library_event, library_figures, loss_block_both,
             LONGEST,
         },
-        tallies::{close_both, open_both, take_both},
+        tallies::{close_both, open_both, take_both, tally_block_both},
     },
 };
 use independent::{
     burst::{self, Figures},
+    summary,
     tally::Tally as Independent,
     trace::Event,
 };
@@ -40,7 +42,8 @@ pub fn time(traces: &[Named]) {
     time_blocks(&measured);
 }
 
-/// A tally of each, after the same packets: a lost packet more, a received one, and closing.
+/// A tally of each, after the same packets: a lost packet more, a received one, closing, and its
+/// block.
 fn time_steps(trace: &[u8]) {
     let (ours, theirs) = (take_ours(trace), take_theirs(trace));
     let closed = close_both(ours);
@@ -61,6 +64,14 @@ fn time_steps(trace: &[u8]) {
     }
     let times = race(|| black_box(ours).close(), || black_box(theirs).close());
     print("tally", trace.len(), "close", times);
+    let (source, flag) = REPORT;
+    let block = tally_block_both(ours, source, flag).expect("a sound tally");
+    assert_eq!(summary::of_tally(theirs, source, flag), Ok(block));
+    let times = race(
+        || black_box(ours).block(black_box(source), black_box(flag)),
+        || summary::of_tally(black_box(theirs), black_box(source), black_box(flag)),
+    );
+    print("tally, its 17", trace.len(), "block", times);
 }
 
 /// Opened, given every packet of the trace, and closed.
@@ -101,7 +112,7 @@ fn take_theirs(trace: &[u8]) -> Independent {
 /// The two kinds of block that report figures.
 fn time_blocks(theirs: &Figures) {
     let ours: figures::Figures = library_figures(theirs);
-    let (source, flag) = (5, 2);
+    let (source, flag) = REPORT;
     loss_block_both(theirs, source, flag);
     discard_block_both(theirs, source, flag);
     let times = race(

@@ -2,7 +2,7 @@
 
 use crate::line::Case;
 use crate::shown;
-use nuvaskoe::block::{self, Block, Discard, EffectiveLoss, Loss, Measurement, TransportStream};
+use nuvaskoe::block::{self, Block, Discard, Effective, Loss, Measurement, TransportStream};
 use nuvaskoe::card::{self, Settings};
 use nuvaskoe::tally::{Stretch, Sums, Tally};
 use nuvaskoe::trace::Event;
@@ -38,7 +38,8 @@ pub fn answer(case: &Case) -> Option<String> {
         }),
         "write" => lending(n[4], |lent| card::write(settings(n), lent)),
         "loss" | "plan" => batches(case.word, n, data),
-        "figures" | "tally" | "close" | "take" => measured(case.word, n, data)?,
+        "figures" | "tally" | "close" | "tallyblock" | "take" => measured(case.word, n, data)?,
+        "loss17" | "discard18" => reported(case.word, n, data)?,
         _ => adding(case.word, n, data)?,
     })
 }
@@ -99,12 +100,26 @@ fn measured(word: &str, n: &[u32], trace: &[u8]) -> Option<String> {
         "figures" => figures::of_trace(trace, n[1], n[2], event),
         "tally" => tallied(n[1], n[2], event, trace),
         "close" => tally(n, event).close(),
+        "tallyblock" => {
+            let block = tally(n, event).block(n[13], u8::try_from(n[14]).ok()?);
+            return Some(shown::or_refused(block, |block| shown::typed(&block)));
+        }
         _ => {
             let (next, answer) = tally(n, event).take(u8::try_from(n[13]).ok()?);
             return Some(shown::or_refused(answer, |()| taken(&next)));
         }
     };
     Some(shown::or_refused(answer, shown::figures))
+}
+
+/// The block of a trace.
+fn reported(word: &str, n: &[u32], trace: &[u8]) -> Option<String> {
+    let (gmin, spacing, source, flag) = (n[0], n[1], n[2], u8::try_from(n[3]).ok()?);
+    let block = match word {
+        "loss17" => figures::loss_of_trace(trace, gmin, spacing, source, flag).map(Block::Loss),
+        _ => figures::discard_of_trace(trace, gmin, spacing, source, flag).map(Block::Discard),
+    };
+    Some(shown::or_refused(block, |block| shown::typed(&block)))
 }
 
 /// A tally opened, given each packet in turn, and closed; the first refusal ends it.
@@ -188,7 +203,7 @@ fn adding(word: &str, n: &[u32], data: &[u8]) -> Option<String> {
             burst_rate: rate(2)?,
             gap_rate: rate(3)?,
         }),
-        "add240" => Block::EffectiveLoss(EffectiveLoss {
+        "add240" => Block::Effective(Effective {
             source: n[0],
             index: EffectiveIndex(short(1)?),
         }),

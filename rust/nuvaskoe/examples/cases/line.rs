@@ -13,7 +13,7 @@ enum Data {
 }
 
 /// Each word, how many numbers it takes, which of them are sizes, and its data.
-const WORDS: [(&str, usize, &[usize], Data); 19] = [
+const WORDS: [(&str, usize, &[usize], Data); 22] = [
     ("read", 1, &[0], Data::Bytes),
     ("block", 2, &[1], Data::Bytes),
     ("body", 2, &[1], Data::Bytes),
@@ -28,8 +28,11 @@ const WORDS: [(&str, usize, &[usize], Data); 19] = [
     ("card", 0, &[], Data::Text),
     ("write", 5, &[4], Data::Nothing),
     ("figures", 4, &[3], Data::Trace),
+    ("loss17", 5, &[4], Data::Trace),
+    ("discard18", 5, &[4], Data::Trace),
     ("tally", 4, &[3], Data::Trace),
     ("close", 13, &[], Data::Nothing),
+    ("tallyblock", 15, &[], Data::Nothing),
     ("take", 14, &[], Data::Nothing),
     ("loss", 3, &[2], Data::Trace),
     ("plan", 4, &[2, 3], Data::Trace),

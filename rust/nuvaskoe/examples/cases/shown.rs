@@ -57,7 +57,8 @@ pub fn line(index: u32, reading: &Reading, size: usize) -> String {
     format!("{index} {text}")
 }
 
-fn typed(block: &Block) -> String {
+/// The same without the number.
+pub fn typed(block: &Block) -> String {
     match block {
         Block::Measurement(m) => format!(
             "meas source {:08x} first {} efirst {} elast {} interval {} seconds {} fraction {}",
@@ -71,7 +72,7 @@ fn typed(block: &Block) -> String {
             "discard source {:08x} i {} burst {} gap {}",
             d.source, d.flag, d.burst_rate, d.gap_rate
         ),
-        Block::EffectiveLoss(e) => format!("eli source {:08x} index {}", e.source, e.index),
+        Block::Effective(e) => format!("eli source {:08x} index {}", e.source, e.index),
         Block::TransportStream(t) => {
             let (begin, end, packets, streams) = (t.begin, t.end, t.packets(), t.streams);
             let counts = t.counts.map(|count| format!(" {count}")).concat();

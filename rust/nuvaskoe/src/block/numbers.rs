@@ -1,7 +1,7 @@
 //! Blocks and the numbers that the boundary has for them.
 
 use super::{
-    Block, Discard, EffectiveLoss, Loss, Measurement, Reading, Reason, TransportStream, Verdict,
+    Block, Discard, Effective, Loss, Measurement, Reading, Reason, TransportStream, Verdict,
 };
 use crate::{
     boundary,
@@ -42,7 +42,7 @@ impl Block {
             boundary::BLOCK_MEASUREMENT => Block::Measurement(Measurement::new(fields)),
             boundary::BLOCK_LOSS => Block::Loss(Loss::new(fields)),
             boundary::BLOCK_DISCARD => Block::Discard(Discard::new(fields)),
-            boundary::BLOCK_EFFECTIVE => Block::EffectiveLoss(EffectiveLoss::new(fields)),
+            boundary::BLOCK_EFFECTIVE => Block::Effective(Effective::new(fields)),
             boundary::BLOCK_STREAMS => Block::TransportStream(TransportStream::new(fields)),
             other => unreachable!("typed block of type {other}"),
         }
@@ -94,11 +94,11 @@ impl Discard {
     }
 }
 
-impl EffectiveLoss {
-    fn new(fields: &Fields) -> EffectiveLoss {
+impl Effective {
+    fn new(fields: &Fields) -> Effective {
         let [source, index, rest @ ..] = fields;
         unused(rest);
-        EffectiveLoss {
+        Effective {
             source: *source,
             index: EffectiveIndex(narrow(*index)),
         }
@@ -158,8 +158,34 @@ impl From<&Discard> for boundary::DiscardSummary {
     }
 }
 
-impl From<&EffectiveLoss> for boundary::EffectiveSummary {
-    fn from(block: &EffectiveLoss) -> Self {
+impl From<boundary::LossSummary> for Loss {
+    #[inline]
+    fn from(block: boundary::LossSummary) -> Self {
+        Self {
+            flag: block.flag,
+            source: block.source,
+            burst_rate: Rate(block.burst_rate),
+            gap_rate: Rate(block.gap_rate),
+            mean: Figure(block.burst_mean),
+            variance: Figure(block.burst_variance),
+        }
+    }
+}
+
+impl From<boundary::DiscardSummary> for Discard {
+    #[inline]
+    fn from(block: boundary::DiscardSummary) -> Self {
+        Self {
+            flag: block.flag,
+            source: block.source,
+            burst_rate: Rate(block.burst_rate),
+            gap_rate: Rate(block.gap_rate),
+        }
+    }
+}
+
+impl From<&Effective> for boundary::EffectiveSummary {
+    fn from(block: &Effective) -> Self {
         Self {
             source: block.source,
             index: block.index.0,

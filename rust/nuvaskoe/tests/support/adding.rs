@@ -8,7 +8,7 @@ use super::{
     pattern, raw, Random,
 };
 use independent::{
-    block::{Block, Discard, EffectiveLoss, Loss, Measurement, Reading, Reason, TransportStream},
+    block::{Block, Discard, Effective, Loss, Measurement, Reading, Reason, TransportStream},
     compose,
 };
 use nuvaskoe::{
@@ -131,7 +131,7 @@ pub fn bytes_of(block: &Block) -> usize {
     match block {
         Block::Measurement(_) => 32,
         Block::Loss(_) => 16,
-        Block::Discard(_) | Block::EffectiveLoss(_) => 12,
+        Block::Discard(_) | Block::Effective(_) => 12,
         Block::TransportStream(_) => 48,
     }
 }
@@ -172,7 +172,7 @@ pub fn one_of_each(source: u32) -> [Block; 5] {
             burst_rate: 0x4142,
             gap_rate: 0x4344,
         }),
-        Block::EffectiveLoss(EffectiveLoss {
+        Block::Effective(Effective {
             source,
             index: 0x5152,
         }),
@@ -220,7 +220,7 @@ pub fn random_kind(random: &mut Random, block_type: u8, sources: &[u32]) -> Bloc
             burst_rate: random.one_of(&RATES),
             gap_rate: random.one_of(&RATES),
         }),
-        240 => Block::EffectiveLoss(EffectiveLoss {
+        240 => Block::Effective(Effective {
             source,
             index: half(random),
         }),
@@ -285,7 +285,7 @@ pub fn library_block(block: &Block) -> library::Block {
             burst_rate: Rate(block.burst_rate),
             gap_rate: Rate(block.gap_rate),
         }),
-        Block::EffectiveLoss(block) => library::Block::EffectiveLoss(library::EffectiveLoss {
+        Block::Effective(block) => library::Block::Effective(library::Effective {
             source: block.source,
             index: EffectiveIndex(block.index),
         }),

@@ -8,7 +8,7 @@ use super::{
     raw,
 };
 use independent::block::{
-    Block, Discard, EffectiveLoss, Loss, Measurement, Reading, Reason, TransportStream,
+    Block, Discard, Effective, Loss, Measurement, Reading, Reason, TransportStream,
 };
 use nuvaskoe::block as library;
 
@@ -203,7 +203,7 @@ fn translated_block(block: library::Block) -> Block {
             burst_rate: block.burst_rate.0,
             gap_rate: block.gap_rate.0,
         }),
-        library::Block::EffectiveLoss(block) => Block::EffectiveLoss(EffectiveLoss {
+        library::Block::Effective(block) => Block::Effective(Effective {
             source: block.source,
             index: block.index.0,
         }),

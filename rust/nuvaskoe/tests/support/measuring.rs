@@ -4,16 +4,17 @@ use super::{
     adding::library_block,
     answers::{ours, refusal, theirs, Answer},
     batches::spoil,
-    boundary::{BurstFigures, Figured},
+    boundary::{BurstFigures, DiscardSummary, Figured, LossSummary, Summary},
     raw, Random,
 };
 use independent::{
     block::Block,
     burst::{self, Figures},
+    summary,
     trace::Event,
 };
 use nuvaskoe::{
-    figures as library, trace,
+    block, figures as library, trace,
     values::{Figure, Rate},
 };
 
@@ -106,6 +107,73 @@ pub fn discard_block_both(figures: &Figures, source: u32, flag: u8) -> Block {
     assert_eq!(library, library_block(&independent), "{source}, {flag}");
     independent
 }
+
+/// The block of a whole trace that reports these events, on which all agree.
+pub fn trace_block_both(
+    trace: &[u8],
+    (gmin, spacing): (u32, u32),
+    event: Event,
+    (source, flag): (u32, u8),
+) -> Answer<Block> {
+    let (wide_gmin, wide_spacing) = (u64::from(gmin), u64::from(spacing));
+    let (whole, safe, independent) = match event {
+        Event::Lost => (
+            raw::loss_of_trace(trace, gmin, spacing, source, flag),
+            library::loss_of_trace(trace, gmin, spacing, source, flag).map(block::Block::Loss),
+            summary::loss_of_trace(trace, wide_gmin, wide_spacing, source, flag),
+        ),
+        Event::Discarded => (
+            raw::discard_of_trace(trace, gmin, spacing, source, flag),
+            library::discard_of_trace(trace, gmin, spacing, source, flag)
+                .map(block::Block::Discard),
+            summary::discard_of_trace(trace, wide_gmin, wide_spacing, source, flag),
+        ),
+    };
+    let expected = theirs(independent);
+    let input = || {
+        let front = &trace[..trace.len().min(64)];
+        let packets = trace.len();
+        format!("{packets} packets {front:?}, {gmin}, {spacing}, {event:?}, {source}, {flag}")
+    };
+    let in_our_words = expected.map(|block| library_block(&block));
+    assert_eq!(ours(safe), in_our_words, "{}", input());
+    assert_eq!(whole, summarized(&expected), "{}", input());
+    expected
+}
+
+/// The whole answer of the boundary: a block that is not filled is all 0, and so are both where
+/// refused.
+pub fn summarized(answer: &Answer<Block>) -> Summary {
+    let mut summary = Summary {
+        refusal: refusal(answer),
+        block_type: 0,
+        loss: NO_LOSS,
+        discard: NO_DISCARD,
+    };
+    match answer {
+        Err(_) => {}
+        Ok(Block::Loss(block)) => (summary.block_type, summary.loss) = (17, block.into()),
+        Ok(Block::Discard(block)) => (summary.block_type, summary.discard) = (18, block.into()),
+        Ok(other) => unreachable!("{other:?}"),
+    }
+    summary
+}
+
+const NO_LOSS: LossSummary = LossSummary {
+    flag: 0,
+    source: 0,
+    burst_rate: 0,
+    gap_rate: 0,
+    burst_mean: 0,
+    burst_variance: 0,
+};
+
+const NO_DISCARD: DiscardSummary = DiscardSummary {
+    flag: 0,
+    source: 0,
+    burst_rate: 0,
+    gap_rate: 0,
+};
 
 /// The event with this number at the boundary: that of such a packet in a trace.
 pub fn event_numbered(number: u32) -> Option<Event> {
@@ -219,6 +287,13 @@ pub fn any_settings(random: &mut Random) -> (u32, u32) {
         _ => {}
     }
     (gmin, spacing)
+}
+
+/// A source and an interval flag, good or not.
+pub fn any_report(random: &mut Random) -> (u32, u8) {
+    let any = random.byte();
+    let flag = random.one_of(&[0, 1, 2, 3, 4, any]);
+    (random.draw() as u32, flag)
 }
 
 /// Figures that a trace may or may not have.

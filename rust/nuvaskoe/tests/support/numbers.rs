@@ -4,9 +4,7 @@ use super::{
     answers::{refusal, Answer},
     boundary,
 };
-use independent::block::{
-    Block, Discard, EffectiveLoss, Loss, Measurement, Reading, TransportStream,
-};
+use independent::block::{Block, Discard, Effective, Loss, Measurement, Reading, TransportStream};
 
 /// The whole answer to asking for a block. Where refused, the verdict is unknown and all else 0.
 pub fn block_answer(answer: &Answer<(u8, Reading)>) -> boundary::Block {
@@ -51,7 +49,7 @@ fn fields(reading: &Reading) -> [u32; boundary::FIELDS] {
             block.burst_rate.into(),
             block.gap_rate.into(),
         ],
-        Block::EffectiveLoss(block) => vec![block.source, block.index.into()],
+        Block::Effective(block) => vec![block.source, block.index.into()],
         Block::TransportStream(block) => stream_fields(block),
     };
     let mut fields = [0; boundary::FIELDS];
@@ -110,8 +108,8 @@ impl From<&Discard> for boundary::DiscardSummary {
     }
 }
 
-impl From<&EffectiveLoss> for boundary::EffectiveSummary {
-    fn from(block: &EffectiveLoss) -> Self {
+impl From<&Effective> for boundary::EffectiveSummary {
+    fn from(block: &Effective) -> Self {
         Self {
             source: block.source,
             index: block.index,

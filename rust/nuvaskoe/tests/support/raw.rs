@@ -62,7 +62,7 @@ pub fn packet_add(out: &mut [u8], block: &independent::block::Block) -> Written 
             Block::Discard(block) => {
                 boundary::nuvaskoe_packet_add_discard(start, length, block.into())
             }
-            Block::EffectiveLoss(block) => {
+            Block::Effective(block) => {
                 boundary::nuvaskoe_packet_add_effective(start, length, block.into())
             }
             Block::TransportStream(block) => {
@@ -87,10 +87,27 @@ pub fn tally_close(tally: Tally) -> Figured {
     unsafe { boundary::nuvaskoe_tally_close(tally) }
 }
 
+pub fn tally_block(tally: Tally, source: u32, flag: u8) -> Summary {
+    // SAFETY: it takes any numbers.
+    unsafe { boundary::nuvaskoe_tally_block(tally, source, flag) }
+}
+
 pub fn figures(trace: &[u8], gmin: u32, spacing: u32, event: u32) -> Figured {
     let (start, length) = (trace.as_ptr(), trace.len());
     // SAFETY: as above.
     unsafe { boundary::nuvaskoe_figures(start, length, gmin, spacing, event) }
+}
+
+pub fn loss_of_trace(trace: &[u8], gmin: u32, spacing: u32, source: u32, flag: u8) -> Summary {
+    let (start, length) = (trace.as_ptr(), trace.len());
+    // SAFETY: as above.
+    unsafe { boundary::nuvaskoe_loss_of_trace(start, length, gmin, spacing, source, flag) }
+}
+
+pub fn discard_of_trace(trace: &[u8], gmin: u32, spacing: u32, source: u32, flag: u8) -> Summary {
+    let (start, length) = (trace.as_ptr(), trace.len());
+    // SAFETY: as above.
+    unsafe { boundary::nuvaskoe_discard_of_trace(start, length, gmin, spacing, source, flag) }
 }
 
 pub fn effective_loss(trace: &[u8], batch: u32, threshold: u32) -> Loss {

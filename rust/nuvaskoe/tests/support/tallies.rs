@@ -2,14 +2,16 @@
 //! the safe calls, where they have such a tally.
 
 use super::{
+    adding::library_block,
     answers::{ours, refusal, theirs, Answer},
     boundary::{self, Tallied},
     measuring::{
-        event_numbered, figured, independent_event, independent_figures, library_event, LONGEST,
+        event_numbered, figured, independent_event, independent_figures, library_event, summarized,
+        LONGEST,
     },
     raw,
 };
-use independent::{burst::Figures, late_tally, tally::Tally as Independent};
+use independent::{block::Block, burst::Figures, late_tally, summary, tally::Tally as Independent};
 use nuvaskoe::{
     tally::{Stretch, Sums, Tally},
     trace::Event,
@@ -92,6 +94,22 @@ pub fn close_numbered(given: boundary::Tally) -> Answer<Figures> {
     expected
 }
 
+/// The tally's block, on which all agree.
+pub fn tally_block_numbered(given: boundary::Tally, source: u32, flag: u8) -> Answer<Block> {
+    let expected = match independent_numbers(&given) {
+        None => Err((15, 0)),
+        Some(tally) => theirs(summary::of_tally(tally, source, flag)),
+    };
+    let answer = raw::tally_block(given, source, flag);
+    assert_eq!(answer, summarized(&expected), "{given:?}, {source}, {flag}");
+    if let Some(tally) = library_tally(&given) {
+        let safe = ours(tally.block(source, flag));
+        let in_our_words = expected.map(|block| library_block(&block));
+        assert_eq!(safe, in_our_words, "{given:?}, {source}, {flag}");
+    }
+    expected
+}
+
 /// The same calls on the library's own tallies.
 pub fn open_both(gmin: u32, spacing: u32, event: Event) -> Answer<Tally> {
     let number = independent_event(event).byte().into();
@@ -105,6 +123,10 @@ pub fn take_both(given: Tally, packet: u8) -> (Tally, Answer<()>) {
 
 pub fn close_both(given: Tally) -> Answer<Figures> {
     close_numbered(at_boundary(&given))
+}
+
+pub fn tally_block_both(given: Tally, source: u32, flag: u8) -> Answer<Block> {
+    tally_block_numbered(at_boundary(&given), source, flag)
 }
 
 fn known(numbers: &boundary::Tally) -> Tally {

@@ -5,13 +5,13 @@ use crate::support::{
     boundary::Tally,
     drawn_tallies::any_numbers,
     measuring::{
-        any_event, any_figures, any_settings, any_trace, discard_block_both, figures_numbered,
-        loss_block_both,
+        any_event, any_figures, any_report, any_settings, any_trace, discard_block_both,
+        figures_numbered, loss_block_both, trace_block_both,
     },
-    tallies::{close_numbered, open_numbered, take_numbered},
+    tallies::{close_numbered, open_numbered, take_numbered, tally_block_numbered},
     Random,
 };
-use independent::burst::Figures;
+use independent::{burst::Figures, trace::Event};
 
 pub fn calls() -> Vec<Call> {
     vec![
@@ -28,6 +28,12 @@ pub fn calls() -> Vec<Call> {
             number(&close_numbered(*tally))
         }),
         call(
+            "tally_block",
+            &[15],
+            |random| (any_numbers(random), any_report(random)),
+            |(tally, (source, flag))| number(&tally_block_numbered(*tally, *source, *flag)),
+        ),
+        call(
             "figures",
             &[15, 10, 9],
             measuring,
@@ -35,6 +41,12 @@ pub fn calls() -> Vec<Call> {
                 number(&figures_numbered(trace, *gmin, *spacing, *event))
             },
         ),
+        call("loss_of_trace", &[15, 10, 9], traced, |traced| {
+            block_of(traced, Event::Lost)
+        }),
+        call("discard_of_trace", &[15, 10, 9], traced, |traced| {
+            block_of(traced, Event::Discarded)
+        }),
         call("loss_block", &[], reported, |(figures, source, flag)| {
             loss_block_both(figures, *source, *flag);
             0
@@ -58,9 +70,20 @@ fn measuring(random: &mut Random) -> (Vec<u8>, (u32, u32), u32) {
     (any_trace(random), any_settings(random), event)
 }
 
+/// A trace, its settings, and the source and flag of its block.
+type Traced = (Vec<u8>, (u32, u32), (u32, u8));
+
+fn traced(random: &mut Random) -> Traced {
+    let report = any_report(random);
+    (any_trace(random), any_settings(random), report)
+}
+
+fn block_of((trace, settings, report): &Traced, event: Event) -> u32 {
+    number(&trace_block_both(trace, *settings, event, *report))
+}
+
 /// Figures, a source and an interval flag.
 fn reported(random: &mut Random) -> (Figures, u32, u8) {
-    let any = random.byte();
-    let flag = random.one_of(&[0, 1, 2, 3, 4, any]);
-    (any_figures(random), random.draw() as u32, flag)
+    let (source, flag) = any_report(random);
+    (any_figures(random), source, flag)
 }
