@@ -7,7 +7,7 @@ use Rattle.wire.specs.BigEndian.{be16, be32}
 use Rattle.block.specs.declared.Measurement.{Measurement}
 use Rattle.block.specs.declared.LossSummary.{LossSummary}
 use Rattle.block.specs.declared.DiscardSummary.{DiscardSummary}
-use Rattle.block.specs.declared.EffectiveLoss.{EffectiveLoss}
+use Rattle.block.specs.declared.EffectiveSummary.{EffectiveSummary}
 use Rattle.block.specs.declared.StreamCounts.{StreamCounts}
 
 -- 14: source; 16 reserved bits and first sequence number; extended first; extended last; interval duration;
@@ -46,7 +46,7 @@ discardIn specific body =
     record { flag = flagIn specific; source = be32 body 0; «burst_rate» = be16 body 4; «gap_rate» = be16 body 6 }
 
 -- 240: source; effective loss index, 16 reserved bits
-unfoldable pub effectiveIn : List ℕ → EffectiveLoss
+unfoldable pub effectiveIn : List ℕ → EffectiveSummary
 effectiveIn body = record { source = be32 body 0; index = be16 body 4 }
 
 -- 241: source; begin, end; streams; eight counts in document 004's order

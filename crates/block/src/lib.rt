@@ -140,7 +140,7 @@ pub struct DiscardSummary {
 //  +-+-+-+-+-+-+-+-+-+-+-+-+-+-+-+-+-+-+-+-+-+-+-+-+-+-+-+-+-+-+-+-+
 // C: nuvaskoe_effective_summary
 #[repr(C)]
-pub struct EffectiveLoss {
+pub struct EffectiveSummary {
     pub source: u32,
     pub index: u16, // effective loss index; 65,535 is full loss
 }
@@ -178,7 +178,7 @@ pub enum Block {
     Measured(Measurement),
     Loss(LossSummary),
     Discard(DiscardSummary),
-    Effective(EffectiveLoss),
+    Effective(EffectiveSummary),
     Streams(StreamCounts),
 }
 
@@ -280,7 +280,7 @@ fn read_effective(body: &[u8]) -> BlockRead
     if body.len() != EFFECTIVE_BYTES {
         return BlockRead::Dropped(BAD_SIZE);
     }
-    BlockRead::Typed(Block::Effective(EffectiveLoss {
+    BlockRead::Typed(Block::Effective(EffectiveSummary {
         source: wire::u32_at(body, 0),
         index: wire::u16_at(body, 4),
     }))

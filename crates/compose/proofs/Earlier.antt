@@ -4,7 +4,6 @@ use mathlib.Core.Path.{_≡_, refl, ap, _∙_}
 use mathlib.Core.Bool.{Bool, true, false, _||_}
 use mathlib.Core.Logic.{_⊎_, inl, inr}
 use mathlib.Core.List.{List, [], _∷_, _++_}
-use native.Mathlib.Omega.{arith}
 use lib.ListN.{length}
 use Rattle.block.specs.Types.{unmeasured}
 use Rattle.block.specs.Reading.{needsOf}
@@ -16,7 +15,7 @@ use Rattle.block.specs.declared.Needs.the-variants.{Nothing, MeasurementOf}
 use Rattle.frame.specs.Frames.{Entry}
 use Rattle.frame.specs.Packet.{Numbered, none, one, good, numbered}
 use Rattle.frame.proofs.Numbering.{number-front}
-use Rattle.packet.specs.Blocks.{readAlone, measures, measured, judged}
+use Rattle.packet.specs.Blocks.{readAlone, measures, measured, readAmong}
 use Rattle.packet.specs.Answers.{found, bodyIn, startIn}
 use Rattle.packet.specs.declared.BlockAt.the-variants.{Found}
 use Rattle.frame.specs.Packet.{sizeIn}
@@ -42,20 +41,20 @@ record Freed (es : List Entry) (e : Entry) (own : BlockRead) : Type 0 where
   source : ℕ
   needs : needsOf block ≡ MeasurementOf source
   measured-now : measures source e ≡ true
-  was : judged es own ≡ Dropped unmeasured
-  is : judged (es ++ e ∷ []) own ≡ Typed block
+  was : readAmong es own ≡ Dropped unmeasured
+  is : readAmong (es ++ e ∷ []) own ≡ Typed block
 
-kept : (es : List Entry) (e : Entry) (own : BlockRead) → (judged (es ++ e ∷ []) own ≡ judged es own) ⊎ Freed es e own
+kept : (es : List Entry) (e : Entry) (own : BlockRead) → (readAmong (es ++ e ∷ []) own ≡ readAmong es own) ⊎ Freed es e own
 kept es e Unknown = inl refl
 kept es e (Dropped reason) = inl refl
 kept es e (Typed b) = go (needsOf b) refl
   where
-    go : (n : Needs) → needsOf b ≡ n → (judged (es ++ e ∷ []) (Typed b) ≡ judged es (Typed b)) ⊎ Freed es e (Typed b)
+    go : (n : Needs) → needsOf b ≡ n → (readAmong (es ++ e ∷ []) (Typed b) ≡ readAmong es (Typed b)) ⊎ Freed es e (Typed b)
     go Nothing q = inl (rw q refl)
     go (MeasurementOf source) q = turn (measured source es) refl (measures source e) refl
       where
         turn : (old : Bool) → measured source es ≡ old → (new : Bool) → measures source e ≡ new →
-            (judged (es ++ e ∷ []) (Typed b) ≡ judged es (Typed b)) ⊎ Freed es e (Typed b)
+            (readAmong (es ++ e ∷ []) (Typed b) ≡ readAmong es (Typed b)) ⊎ Freed es e (Typed b)
         turn true o new n = inl (rw (q, measured-behind source es e, o) refl)
         turn false o true n =
             inr (record { block = b; source = source; needs = q; measured-now = n; was = rw (q, o) refl; is = rw (q, measured-behind source es e, o, n) refl })
@@ -70,7 +69,7 @@ kept-at sender es e k h =
       go (numbered es k) refl,
     )
   where
-    by : (x : Entry) → numbered es k ≡ one x → (judged (es ++ e ∷ []) (readAlone x) ≡ judged es (readAlone x)) ⊎ Freed es e (readAlone x) →
+    by : (x : Entry) → numbered es k ≡ one x → (readAmong (es ++ e ∷ []) (readAlone x) ≡ readAmong es (readAlone x)) ⊎ Freed es e (readAlone x) →
         (found (es ++ e ∷ []) (numbered (es ++ e ∷ []) k) ≡ found es (numbered es k)) ⊎ Lifted (good sender es) (good sender (es ++ e ∷ [])) e k
     by x n (inl same) = inl (rw (number-front es (e ∷ []) k h, n) (ap (Found (x .kind)) same))
     by x n (inr f) =

@@ -24,7 +24,7 @@ use Rattle.encode.proofs.ReadBack.{read-back}
 use Rattle.frame.specs.Frames.{Entry}
 use Rattle.frame.specs.Packet.{one, numbered, sizeIn}
 use Rattle.frame.proofs.Numbering.{number-last, number-front}
-use Rattle.packet.specs.Blocks.{readAlone, names, measures, measured, judged}
+use Rattle.packet.specs.Blocks.{readAlone, names, measured, readAmong}
 use Rattle.packet.specs.Answers.{found}
 use Rattle.packet.specs.declared.BlockAt.the-variants.{Found}
 use Rattle.packet.proofs.Judging.{has-measurement, lacks-measurement, measured-anywhere}
@@ -56,14 +56,14 @@ module _ (s : List ℕ) (b : Block) (sender : ℕ) (es : List Entry) (n : ℕ) (
   abbrev new : Entry
   new = blockEntry b (sizeIn s)
 
-  behind : Appended s (afterAdd s b) (typeOf b) (specificOf b) (bodyWords b) sender es n
+  pub behind : Appended s (afterAdd s b) (typeOf b) (specificOf b) (bodyWords b) sender es n
   behind = added-good s (ownOf b) (typeOf b) (specificOf b) (bodyWords b) sender es n (append s b sender es n a)
 
   alone : readAlone new ≡ Typed b
   alone = entry-alone b (sizeIn s) (a .fits) (may s b n (a .answer))
 
   -- in any packet in which it has its number
-  in-packet : (all : List Entry) → numbered all (length es) ≡ one new → found all (numbered all (length es)) ≡ Found (typeOf b) (judged all (Typed b))
+  in-packet : (all : List Entry) → numbered all (length es) ≡ one new → found all (numbered all (length es)) ≡ Found (typeOf b) (readAmong all (Typed b))
   in-packet all n = rw (n, alone)
 
 pub added-read : Added-read

@@ -22,7 +22,7 @@ use Rattle.encode.specs.Words.{typeOf, specificOf, bodyWords, blockWords, words
 use Rattle.encode.specs.Laws.{Word, Fits, Bytes}
 use Rattle.frame.specs.Frames.{Entry, blockAt}
 use Rattle.frame.specs.Packet.{Packet, good, sizeIn, packetOf, frontPacket}
-use Rattle.packet.specs.Blocks.{measures, judged}
+use Rattle.packet.specs.Blocks.{measures, readAmong}
 use Rattle.packet.specs.Laws.{MeasuredAt}
 use Rattle.packet.specs.Answers.{blockOf, bodyOf, bodyStart, partOf}
 use Rattle.packet.specs.declared.BlockAt.the-variants.{Found}
@@ -96,12 +96,12 @@ abbrev pub blockEntry : Block → ℕ → Entry
 blockEntry b at = entryOf (typeOf b) (specificOf b) (bodyWords b) at
 
 -- "Read by itself the new block is the one given; read by index too, save that a 17 or 18 is D4 until its block 14
--- is there": `judged` is D4 and nothing else.
+-- is there": `readAmong` is D4 and nothing else.
 abbrev pub Added-read : Type 0
 Added-read =
     (s : List ℕ) (b : Block) (sender : ℕ) (es : List Entry) (n : ℕ) → Add s b sender es n →
     (readBytes (drop (sizeIn s) (take n (afterAdd s b))) ≡ Typed b)
-    × (blockOf (packetOf (take n (afterAdd s b))) (length es) ≡ Found (typeOf b) (judged (es ++ blockEntry b (sizeIn s) ∷ []) (Typed b)))
+    × (blockOf (packetOf (take n (afterAdd s b))) (length es) ≡ Found (typeOf b) (readAmong (es ++ blockEntry b (sizeIn s) ∷ []) (Typed b)))
 
 -- A 17 or 18 is D4 once it is added, where no block that was there is a typed 14 for its source.
 abbrev pub Added-unmeasured : Type 0

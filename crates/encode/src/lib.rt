@@ -2,7 +2,7 @@
 // in crate block, so a block is made as words and one loop stores them. Reserved bits are zero.
 use block::Block;
 use block::DiscardSummary;
-use block::EffectiveLoss;
+use block::EffectiveSummary;
 use block::LossSummary;
 use block::Measurement;
 use block::StreamCounts;
@@ -140,7 +140,7 @@ fn discard_words(d: DiscardSummary) -> BlockWords
     }
 }
 
-fn effective_words(e: EffectiveLoss) -> BlockWords
+fn effective_words(e: EffectiveSummary) -> BlockWords
     ensures { λ r. ⌜ r ≡ filled (wordsOf (Effective e)) ⌝ }
 {
     BlockWords {

@@ -2,7 +2,7 @@
 // that every value that C can pass is one that document 01 speaks of.
 use block::Block;
 use block::DiscardSummary;
-use block::EffectiveLoss;
+use block::EffectiveSummary;
 use block::LossSummary;
 use block::Measurement;
 use block::StreamCounts;
@@ -53,7 +53,10 @@ pub extern "C" fn nuvaskoe_packet_add_discard(out: &mut [u8], block: DiscardSumm
 
 // Adds a block 240.
 #[no_mangle]
-pub extern "C" fn nuvaskoe_packet_add_effective(out: &mut [u8], block: EffectiveLoss) -> WrittenSize
+pub extern "C" fn nuvaskoe_packet_add_effective(
+    out: &mut [u8],
+    block: EffectiveSummary,
+) -> WrittenSize
     ensures answer { λ r. ⌜ r ≡ writtenOut (addAnswer (now (out .entry)) (Effective block)) ⌝ }
     ensures buffer { λ r. ⌜ now (out .exit) ≡ after (addAnswer (now (out .entry)) (Effective block)) (grown (now (out .entry)) (wordsOf (Effective block))) (now (out .entry)) ⌝ }
 {

@@ -3,7 +3,7 @@
 // every line of a block takes half a second of proof each.
 use block::Block;
 use block::DiscardSummary;
-use block::EffectiveLoss;
+use block::EffectiveSummary;
 use block::LossSummary;
 use block::Measurement;
 use block::StreamCounts;
@@ -66,7 +66,7 @@ fn put_discard(page: &mut [u8], at: usize, d: DiscardSummary) -> usize
     put_figure(page, c, b" gap ", d.gap_rate)
 }
 
-fn put_effective(page: &mut [u8], at: usize, e: EffectiveLoss) -> usize
+fn put_effective(page: &mut [u8], at: usize, e: EffectiveSummary) -> usize
     ensures answer { λ r. ⌜ r ≡ endAt (now (page .entry)) at (typedText (Effective e)) ⌝ }
     ensures buffer { λ r. ⌜ now (page .exit) ≡ putAt (now (page .entry)) at (typedText (Effective e)) ⌝ }
 {

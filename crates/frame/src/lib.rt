@@ -45,7 +45,7 @@ pub enum Walked {
 }
 
 // What the first eight bytes say: who sent the packet and its size in bytes, or why it is refused.
-enum Header {
+pub enum Header {
     Sender(u32, usize),
     Refused(Refusal),
 }

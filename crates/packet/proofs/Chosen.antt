@@ -21,7 +21,7 @@ use Rattle.frame.proofs.Numbering.{Stands, stands, number-none, packet-fill, pa
 use Rattle.packet.specs.declared.PacketHead.the-variants.{Sent}
 use Rattle.packet.specs.declared.BlockAt.the-variants.{Found, Refused}
 use Rattle.packet.specs.declared.Part.{Part}
-use Rattle.packet.specs.Blocks.{judged, readIn}
+use Rattle.packet.specs.Blocks.{readAmong, readIn}
 use Rattle.packet.specs.Answers.{headOf, chosen, found, blockOf, partOf}
 use Rattle.packet.specs.Steps.{blocksOf, WholeBlocks}
 use Rattle.packet.specs.Laws.{PartIs, Body-is-part, Absent, Absent-exactly}
@@ -64,7 +64,7 @@ module _ (s : List ℕ) (k sender count at : ℕ) (o : Here Extent·Whole s k se
 
     -- the bytes of the block, read and judged; and where its body lies
     module _ (bytes : List ℕ) (b : bytes ≡ blockAt s at) where
-      pub located-answer : (own answer : BlockRead) → own ≡ readBytes bytes → answer ≡ judged (blocksOf s) own → Found (getD bytes 0 0) answer ≡ blockOf (packetOf s) k
+      pub located-answer : (own answer : BlockRead) → own ≡ readBytes bytes → answer ≡ readAmong (blocksOf s) own → Found (getD bytes 0 0) answer ≡ blockOf (packetOf s) k
       located-answer own answer r j =
           rw (j, r, b, block-bytes s at located-fits .kind, read-at s at located-fits) located-read
 

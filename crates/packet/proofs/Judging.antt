@@ -16,22 +16,22 @@ use Rattle.block.specs.declared.BlockRead.the-variants.{Typed, Unknown, Dropped
 use Rattle.block.specs.declared.Needs.{Needs}
 use Rattle.block.specs.declared.Needs.the-variants.{Nothing, MeasurementOf}
 use Rattle.frame.specs.Frames.{Entry}
-use Rattle.packet.specs.Blocks.{readAlone, measures, measured, given, judged, readIn}
+use Rattle.packet.specs.Blocks.{readAlone, measures, measured, given, readAmong, readIn}
 use Rattle.packet.specs.Laws.{Own-but-unmeasured, Unmeasured, Unmeasured-exactly, Measured-anywhere}
 
--- the cases of `judged`
+-- the cases of `readAmong`
 module _ (es : List Entry) (own : BlockRead) where
-  pub has-measurement : (b : Block) (source : ℕ) → own ≡ Typed b → needsOf b ≡ MeasurementOf source → measured source es ≡ true → Typed b ≡ judged es own
+  pub has-measurement : (b : Block) (source : ℕ) → own ≡ Typed b → needsOf b ≡ MeasurementOf source → measured source es ≡ true → Typed b ≡ readAmong es own
   has-measurement b source o n m = rw (o, n, m)
 
-  pub lacks-measurement : (b : Block) (source : ℕ) → own ≡ Typed b → needsOf b ≡ MeasurementOf source → measured source es ≡ false → Dropped unmeasured ≡ judged es own
+  pub lacks-measurement : (b : Block) (source : ℕ) → own ≡ Typed b → needsOf b ≡ MeasurementOf source → measured source es ≡ false → Dropped unmeasured ≡ readAmong es own
   lacks-measurement b source o n m = rw (o, n, m)
 
-  pub needs-nothing : (b : Block) → own ≡ Typed b → needsOf b ≡ Nothing → Typed b ≡ judged es own
+  pub needs-nothing : (b : Block) → own ≡ Typed b → needsOf b ≡ Nothing → Typed b ≡ readAmong es own
   needs-nothing b o n = rw (o, n)
 
 -- In a packet a block reads as by itself, but for D4.
-by-needs : (es : List Entry) (own : BlockRead) → (judged es own ≡ own) ⊎ (judged es own ≡ Dropped unmeasured)
+by-needs : (es : List Entry) (own : BlockRead) → (readAmong es own ≡ own) ⊎ (readAmong es own ≡ Dropped unmeasured)
 by-needs es Unknown = inl refl
 by-needs es (Dropped reason) = inl refl
 by-needs es (Typed b) = go (needsOf b)
@@ -62,7 +62,7 @@ unmeasured-only es e dropped = go (readAlone e) refl dropped
     by-need b Nothing t n h = let z : _≡_ {A = ℕ} 0 1 = cc in absurd (omega arith)
     by-need b (MeasurementOf source) t n h = by-place b source (measured source es) t n refl h
 
-    go : (own : BlockRead) → readAlone e ≡ own → judged es own ≡ Dropped unmeasured → Unmeasured es e
+    go : (own : BlockRead) → readAlone e ≡ own → readAmong es own ≡ Dropped unmeasured → Unmeasured es e
     go (Typed b) t h = by-need b (needsOf b) t refl h
     go Unknown t h = let z : _≡_ {A = ℕ} 0 1 = cc in absurd (omega arith)
     go (Dropped reason) t h = absurd (omega (arith, own-reasons (e .kind) (e .specific) (e .body) unmeasured (t ∙ h) .1))

@@ -1,6 +1,6 @@
 -- Reserved bits are ignored: clearing a packet's blocks changes no answer, so packets that are equal once cleared are read
 -- alike; and so are bytes. `Reserved-in-packet` and `Reserved-bytes` of specs/Reserved.antt. Assumes nothing.
-use Prim.Native.Nat.{ℕ, zero, suc, _+_, _*_, _/_, _<_, _≤_}
+use Prim.Native.Nat.{ℕ, zero, suc, _+_, _*_, _<_, _≤_}
 use mathlib.Core.Path.{_≡_, refl, sym, ap, ap₂, _∙_}
 use mathlib.Core.List.{List, [], _∷_}
 use native.Mathlib.Omega.{arith}
@@ -18,7 +18,7 @@ use Rattle.frame.specs.Packet.{Packet, good, bad, Numbered, none, one, numbered
 use Rattle.frame.specs.Laws.{Fill, IsPacket}
 use Rattle.frame.proofs.FirstBytes.{Head, head-facts, head-good}
 use Rattle.frame.proofs.Filling.{packet-exactly}
-use Rattle.packet.specs.Blocks.{readAlone, measured, given, judged, readIn}
+use Rattle.packet.specs.Blocks.{readAlone, measured, given, readAmong, readIn}
 use Rattle.packet.specs.declared.PacketHead.the-variants.{Sent}
 use Rattle.packet.specs.Answers.{headOf, found, blockOf, bodyIn, startIn, partOf}
 use Rattle.packet.specs.Reserved.{cleared, clearedAll, clearedPacket, Same, Reserved-in-packet, Reserved-bytes}
@@ -40,7 +40,7 @@ clear-read es e = rw (clear-alone e) (go (readAlone e))
     by-need Nothing answer = refl
     by-need (MeasurementOf source) answer = rw (clear-measured source es)
 
-    go : (own : BlockRead) → judged (clearedAll es) own ≡ judged es own
+    go : (own : BlockRead) → readAmong (clearedAll es) own ≡ readAmong es own
     go (Typed b) = by-need (needsOf b) (Typed b)
     go Unknown = refl
     go (Dropped reason) = refl

@@ -37,11 +37,11 @@ abbrev pub given : List Entry → Needs → BlockRead → BlockRead
 given es Nothing answer = answer
 given es (MeasurementOf source) answer = unless (measured source es) (Dropped unmeasured) answer
 
-abbrev pub judged : List Entry → BlockRead → BlockRead
-judged es (Typed b) = given es (needsOf b) (Typed b)
-judged es Unknown = Unknown
-judged es (Dropped reason) = Dropped reason
+abbrev pub readAmong : List Entry → BlockRead → BlockRead
+readAmong es (Typed b) = given es (needsOf b) (Typed b)
+readAmong es Unknown = Unknown
+readAmong es (Dropped reason) = Dropped reason
 
 -- a block of the packet whose blocks are es
 abbrev pub readIn : List Entry → Entry → BlockRead
-readIn es e = judged es (readAlone e)
+readIn es e = readAmong es (readAlone e)

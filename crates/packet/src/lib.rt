@@ -11,7 +11,7 @@ ghost use Prim.Native.Nat.{_+_};
 ghost use denote.Ref.{ptr};
 ghost use Rattle.block.specs.Reading.{readBytes, measuresOf};
 ghost use Rattle.frame.specs.Packet.{packetOf};
-ghost use Rattle.packet.specs.Blocks.{names, measured, judged};
+ghost use Rattle.packet.specs.Blocks.{names, measured, readAmong};
 ghost use Rattle.packet.specs.Answers.{headOf, blockOf, bodyOf, bodyStart, partOf};
 ghost use Rattle.packet.specs.Steps.{blocksOf, WholeBlocks};
 
@@ -101,7 +101,7 @@ pub fn body(packet: &[u8], index: usize) -> &[u8]
 // A block that was read by itself, judged among the blocks of its packet: D4.
 fn judge(s: &[u8], own: BlockRead) -> BlockRead
     requires { ⌜ WholeBlocks (now s) ⌝ }
-    ensures { λ r. ⌜ r ≡ judged (blocksOf (now (s .entry))) own ⌝ }
+    ensures { λ r. ⌜ r ≡ readAmong (blocksOf (now (s .entry))) own ⌝ }
 {
     match own {
         BlockRead::Typed(b) => match block::needed_by(b) {

@@ -5,7 +5,9 @@ use mathlib.Core.Path.{_≡_}
 use mathlib.Core.List.{List, [], _∷_, map}
 use lib.ListN.{length, replicate}
 use Rattle.refusal.specs.Table.{cardCheck, batchLength}
+use Rattle.settings.specs.Ranges.{limits}
 use Rattle.trace.specs.declared.Event.the-variants.{Lost}
+use Rattle.trace.specs.Trace.{countedAt, judged}
 use Rattle.block.specs.Reading.{unavailable}
 use Rattle.block.specs.declared.Block.the-variants.{Effective}
 use Rattle.block.specs.declared.BlockRead.the-variants.{Typed}
@@ -30,12 +32,12 @@ use Rattle.resend.specs.declared.Planned.the-variants.{Marks}
 use Rattle.resend.specs.Answer.{planAnswer, bufferAfter}
 
 -- what is handed in: a trace with its settings, a card, a packet
-pub data Given : Type 0 where
-  effective : List ℕ → ℕ → ℕ → Given
-  resend : List ℕ → ℕ → ℕ → Given
-  bursts : List ℕ → ℕ → ℕ → Given
-  card : List ℕ → Given
-  packet : List ℕ → Given
+pub data Input : Type 0 where
+  effective : List ℕ → ℕ → ℕ → Input
+  resend : List ℕ → ℕ → ℕ → Input
+  bursts : List ℕ → ℕ → ℕ → Input
+  card : List ℕ → Input
+  packet : List ℕ → Input
 
 -- what comes back
 pub data Outcome : Type 0 where
@@ -49,15 +51,17 @@ pub data Outcome : Type 0 where
 abbrev pub room : List ℕ → List ℕ
 room trace = replicate (length trace) 255
 
-abbrev pub outcome : Given → Outcome
-outcome (effective trace b t) = loss (lossAnswer Lost trace b t)
-outcome (resend trace b t) = plan (planAnswer Lost trace b t (room trace)) (bufferAfter Lost trace b t (room trace))
+abbrev pub outcome : Input → Outcome
+outcome (effective trace b t) = loss (lossAnswer (judged trace) (countedAt Lost trace) (length trace) b t)
+outcome (resend trace b t) =
+    plan (planAnswer (judged trace) (countedAt Lost trace) (length trace) b t (room trace))
+    (bufferAfter (judged trace) (countedAt Lost trace) (length trace) b t (room trace))
 outcome (bursts trace gmin spacing) = figures (figuresIn gmin spacing Lost trace)
-outcome (card digits) = settings (readCard (map (λ (d : ℕ). 48 + d) digits))
+outcome (card digits) = settings (readCard limits (map (λ (d : ℕ). 48 + d) digits))
 outcome (packet bytes) = blocks (headOf (packetOf bytes)) (blockOf (packetOf bytes) 0)
 
 pub record Example : Type 0 where
-  pub given : Given
+  pub given : Input
   pub expected : Outcome
 
 abbrev pub found : ℕ → ℕ → ℕ → ℕ → Outcome

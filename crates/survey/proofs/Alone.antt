@@ -17,7 +17,7 @@ use Rattle.block.specs.Reading.{flagGood, ratesGood, sized, summaryRead, needsO
 use Rattle.block.specs.declared.Block.{Block}
 use Rattle.block.specs.declared.BlockRead.the-variants.{Typed, Dropped}
 use Rattle.block.specs.declared.Needs.the-variants.{Nothing, MeasurementOf}
-use Rattle.packet.specs.Blocks.{measured, judged}
+use Rattle.packet.specs.Blocks.{measured, readAmong}
 use Rattle.survey.specs.Survey.{verdictOf}
 use Rattle.survey.specs.Alone.{sizeVerdict, summaryVerdict}
 
@@ -25,10 +25,10 @@ module _ (bytes : List ℕ) (some : 4 ≤ length bytes) where
   abbrev body : List ℕ
   body = drop 4 bytes
 
-  size-is : (words : ℕ) (b : Block) → needsOf b ≡ Nothing → sizeVerdict (length bytes) (4 + 4 * words) ≡ verdictOf (judged [] (sized words body (Typed b)))
+  size-is : (words : ℕ) (b : Block) → needsOf b ≡ Nothing → sizeVerdict (length bytes) (4 + 4 * words) ≡ verdictOf (readAmong [] (sized words body (Typed b)))
   size-is words b n = go (ℕ-discrete (length bytes) (4 + 4 * words))
     where
-      go : Dec (length bytes ≡ 4 + 4 * words) → sizeVerdict (length bytes) (4 + 4 * words) ≡ verdictOf (judged [] (sized words body (Typed b)))
+      go : Dec (length bytes ≡ 4 + 4 * words) → sizeVerdict (length bytes) (4 + 4 * words) ≡ verdictOf (readAmong [] (sized words body (Typed b)))
       go (yes e) = rw (eq-eqb (length bytes) (4 + 4 * words) e, eq-eqb (length body) (4 * words) (omega (arith, length-drop 4 bytes)), n)
       go (no e) = rw (ne-eqb (length bytes) (4 + 4 * words) e, ne-eqb (length body) (4 * words) (λ h. e (omega (arith, length-drop 4 bytes))))
 
@@ -39,16 +39,16 @@ module _ (bytes : List ℕ) (some : 4 ≤ length bytes) where
       u16-inside bytes (4 + i) h ∙ ap₂ (λ (x y : ℕ). x * 256 + y) (sym (getD-drop 4 bytes i 0)) (ap (λ (k : ℕ). getD bytes k 0) next ∙ sym (getD-drop 4 bytes (i + 1) 0))
 
   summary-is : (words flag : ℕ) (b : Block) (source : ℕ) → 2 ≤ words → needsOf b ≡ MeasurementOf source →
-      summaryVerdict bytes (4 + 4 * words) flag ≡ verdictOf (judged [] (sized words body (summaryRead flag (be16 body 4) (be16 body 6) b)))
+      summaryVerdict bytes (4 + 4 * words) flag ≡ verdictOf (readAmong [] (sized words body (summaryRead flag (be16 body 4) (be16 body 6) b)))
   unfolding summaryRead measured
   summary-is words flag b source w n = go (ℕ-discrete (length bytes) (4 + 4 * words))
     where
-      tests : (f r : Bool) → unless f badFlag (unless r badRate unmeasured) ≡ verdictOf (judged [] (unless f (Dropped badFlag) (unless r (Dropped badRate) (Typed b))))
+      tests : (f r : Bool) → unless f badFlag (unless r badRate unmeasured) ≡ verdictOf (readAmong [] (unless f (Dropped badFlag) (unless r (Dropped badRate) (Typed b))))
       tests false r = refl
       tests true false = refl
       tests true true = rw n
 
-      go : Dec (length bytes ≡ 4 + 4 * words) → summaryVerdict bytes (4 + 4 * words) flag ≡ verdictOf (judged [] (sized words body (summaryRead flag (be16 body 4) (be16 body 6) b)))
+      go : Dec (length bytes ≡ 4 + 4 * words) → summaryVerdict bytes (4 + 4 * words) flag ≡ verdictOf (readAmong [] (sized words body (summaryRead flag (be16 body 4) (be16 body 6) b)))
       go (yes e) =
           rw (eq-eqb (length bytes) (4 + 4 * words) e, eq-eqb (length body) (4 * words) (omega (arith, length-drop 4 bytes)), half 4 (omega arith), half 6 (omega arith))
           (tests (flagGood flag) (ratesGood (be16 body 4) (be16 body 6)))
@@ -56,7 +56,7 @@ module _ (bytes : List ℕ) (some : 4 ≤ length bytes) where
 
   -- the cases of a type
   abbrev Is : ℕ → Type 0
-  Is verdict = verdict ≡ verdictOf (judged [] (readBytes bytes))
+  Is verdict = verdict ≡ verdictOf (readAmong [] (readBytes bytes))
 
   pub of-measurement : getD bytes 0 0 ≡ measurementType → Is (sizeVerdict (length bytes) (4 + 4 * measurementWords))
   unfolding readBytes readBlock readMeasurement

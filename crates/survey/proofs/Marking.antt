@@ -13,7 +13,7 @@ use Rattle.frame.proofs.Stepping.{first-of, at-end}
 use Rattle.frame.proofs.Blocks.{block-next}
 use Rattle.block.specs.Reading.{readBytes, measuresOf}
 use Rattle.block.specs.declared.BlockRead.{BlockRead}
-use Rattle.packet.specs.Blocks.{readAlone, names, measures, measured, judged, readIn}
+use Rattle.packet.specs.Blocks.{readAlone, names, measures, measured, readAmong, readIn}
 use Rattle.packet.specs.Steps.{blocksOf}
 use Rattle.packet.proofs.Measuring.{read-at}
 use Rattle.survey.specs.Survey.{verdictOf}
@@ -86,12 +86,12 @@ module _ (s old : List ℕ) (count : ℕ) (room : Room s old count) where
         let few = m .few in
         (omega arith, omega arith)
 
-    pub mark-on : (h : at < length s) (bytes : List ℕ) → bytes ≡ blockAt s at → (v : ℕ) → v ≡ verdictOf (judged [] (readBytes bytes)) → (r : ℕ) (new : List ℕ) →
+    pub mark-on : (h : at < length s) (bytes : List ℕ) → bytes ≡ blockAt s at → (v : ℕ) → v ≡ verdictOf (readAmong [] (readBytes bytes)) → (r : ℕ) (new : List ℕ) →
         Grown (measuresOf (readBytes bytes)) (set out i (at * verdicts + v)) new k r → Mark s old count new (at + length bytes) (i + 1) r
     unfolding entryAt
     mark-on h bytes b v j r new grow =
         let alone : readBytes bytes ≡ readAlone (entryAt s at) = ap readBytes b ∙ read-at s at (mark-fits h) in
-        let is : v ≡ verdictOf (readIn [] (entryAt s at)) = j ∙ ap (λ (a : BlockRead). verdictOf (judged [] a)) alone in
+        let is : v ≡ verdictOf (readIn [] (entryAt s at)) = j ∙ ap (λ (a : BlockRead). verdictOf (readAmong [] a)) alone in
         let e = block-next s at bytes (mark-fits h) b in
         let same-source : (x : ℕ) → names (measuresOf (readBytes bytes)) x ≡ measures x (entryAt s at) = λ x. ap (λ (a : BlockRead). names (measuresOf a) x) alone in
         let first = first-of s at (length s) (m .left) h (m .frames) in

@@ -21,7 +21,7 @@ use Rattle.block.specs.declared.BlockRead.the-variants.{Typed, Unknown, Dropped
 use Rattle.block.specs.declared.Needs.{Needs}
 use Rattle.block.specs.declared.Needs.the-variants.{Nothing, MeasurementOf}
 use Rattle.frame.specs.Frames.{Entry, bodyLength, nextAt, entryAt}
-use Rattle.packet.specs.Blocks.{readAlone, measured, given, judged, readIn}
+use Rattle.packet.specs.Blocks.{readAlone, measured, given, readAmong, readIn}
 use Rattle.packet.specs.Laws.{Unmeasured}
 use Rattle.packet.proofs.Chosen.{body-long}
 use Rattle.packet.proofs.Judging.{unmeasured-exactly}
@@ -41,7 +41,7 @@ verdict-small es e = go (readAlone e) refl
     by-need b Nothing = omega arith
     by-need b (MeasurementOf source) = by-measured b (measured source es)
 
-    go : (own : BlockRead) → readAlone e ≡ own → verdictOf (judged es own) < verdicts
+    go : (own : BlockRead) → readAlone e ≡ own → verdictOf (readAmong es own) < verdicts
     go (Typed b) o = by-need b (needsOf b)
     go Unknown o = omega arith
     go (Dropped reason) o = let few = own-reasons (e .kind) (e .specific) (e .body) reason o in omega arith
@@ -55,7 +55,7 @@ settled es e h = go (readAlone e) h
     by-need b Nothing n = refl
     by-need b (MeasurementOf source) n = absurd (n refl)
 
-    go : (own : BlockRead) → (verdictOf (judged [] own) ≡ unmeasured → ⊥) → verdictOf (judged es own) ≡ verdictOf (judged [] own)
+    go : (own : BlockRead) → (verdictOf (readAmong [] own) ≡ unmeasured → ⊥) → verdictOf (readAmong es own) ≡ verdictOf (readAmong [] own)
     go (Typed b) n = by-need b (needsOf b) n
     go Unknown n = refl
     go (Dropped reason) n = refl

@@ -18,7 +18,7 @@ ghost use Rattle.wire.specs.BigEndian.{u32At};
 ghost use Rattle.block.specs.Types.{unmeasured};
 ghost use Rattle.block.specs.Reading.{readBytes, measuresOf};
 ghost use Rattle.frame.specs.Packet.{packetOf};
-ghost use Rattle.packet.specs.Blocks.{measured, judged};
+ghost use Rattle.packet.specs.Blocks.{measured, readAmong};
 ghost use Rattle.packet.specs.Steps.{blocksOf};
 ghost use Rattle.survey.specs.Survey.{verdictOf, listOf, listAnswer};
 ghost use Rattle.survey.specs.Sources.{member, Grown, Table};
@@ -76,7 +76,7 @@ fn mark(s: &[u8], out: &mut [u32], count: usize) -> usize
 // its struct.
 fn verdict_unmeasured(bytes: &[u8]) -> u8
     requires { ⌜ 4 ≤ length (now bytes) ⌝ }
-    ensures { λ r. ⌜ r ≡ verdictOf (judged [] (readBytes (now (bytes .entry)))) ⌝ }
+    ensures { λ r. ⌜ r ≡ verdictOf (readAmong [] (readBytes (now (bytes .entry)))) ⌝ }
 {
     let kind = bytes[0];
     match kind {

@@ -2,7 +2,6 @@
 // from position at on and answers where it ends. What does not fit is cut off at the page's end, so any
 // position and any text may be given; calls one after the other put what one call with the joined text puts.
 ghost use mathlib.Core.Path.{_≡_};
-ghost use Prim.Native.Nat.{min};
 ghost use Rattle.text.specs.Text.{decimalOf, hexOf};
 ghost use Rattle.text.specs.Page.{putAt, endAt};
 
@@ -13,7 +12,8 @@ pub fn put(page: &mut [u8], at: usize, text: &[u8]) -> usize
     if page.len() <= at {
         return at;
     }
-    let n = least(text.len(), page.len() - at);
+    let room = page.len() - at;
+    let n = if text.len() < room { text.len() } else { room };
     let mut i = 0;
     while i < n {
         page[at + i] = text[i];
@@ -40,10 +40,4 @@ pub fn put_hex(page: &mut [u8], at: usize, n: u32) -> usize
     let mut places = [0u8; 16];
     let k = io::hex(n as u64, 8, &mut places);
     put(page, at, &places[..k])
-}
-
-fn least(a: usize, b: usize) -> usize
-    ensures { λ r. ⌜ r ≡ min a b ⌝ }
-{
-    if a < b { a } else { b }
 }
