@@ -1,0 +1,6 @@
+pub mod Orders
+pub mod Boundary
+pub mod Places
+pub mod Packets
+pub mod Formulas
+pub mod Demands

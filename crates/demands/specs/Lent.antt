@@ -1,0 +1,34 @@
+-- What a refused call leaves in the buffers that it was lent.
+use Prim.Native.Nat.{ℕ}
+use mathlib.Core.Path.{_≡_}
+use mathlib.Core.List.{List}
+use lib.ListN.{length}
+use Rattle.refusal.specs.Answer.{after}
+use Rattle.refusal.specs.declared.Refusal.{Refusal}
+use Rattle.refusal.specs.declared.Written.the-variants.{Refused}
+use Rattle.settings.specs.Ranges.{limits}
+use Rattle.settings.specs.declared.Settings.{Settings}
+use Rattle.card.specs.Card.{cardOf, writeCard}
+use Rattle.block.specs.declared.Block.{Block}
+use Rattle.encode.specs.Words.{wordsOf}
+use Rattle.frame.specs.Packet.{packetOf}
+use Rattle.survey.specs.Survey.{listOf, listAnswer}
+use Rattle.compose.specs.Writing.{newBytes, newAnswer, grown, addAnswer}
+use Rattle.trace.specs.declared.Event.{Event}
+use Rattle.trace.specs.Trace.{countedAt, judged}
+use Rattle.tally.specs.declared.Tally.{Tally}
+use Rattle.tally.specs.declared.Answer.the-variants.{Refused as Answer·Refused}
+use Rattle.tally.specs.Tally.{takeOne}
+use Rattle.resend.specs.declared.Planned.the-variants.{Refused as Planned·Refused}
+use Rattle.resend.specs.Answer.{planAnswer, bufferAfter}
+
+-- "All lent bytes keep what they held; a tally comes back as given": of every call that fills a lent buffer, which the
+-- calls of include/nuvaskoe.h do by the same definitions, and of taking a packet.
+pub record Unchanged : Type 0 where
+  pub card-write : (s : Settings) (out : List ℕ) (r : Refusal) → writeCard limits s out ≡ Refused r → after (writeCard limits s out) (cardOf s) out ≡ out
+  pub packet-list : (s out : List ℕ) (r : Refusal) → listAnswer (packetOf s) out ≡ Refused r → after (listAnswer (packetOf s) out) (listOf (packetOf s)) out ≡ out
+  pub packet-new : (sender : ℕ) (out : List ℕ) (r : Refusal) → newAnswer out ≡ Refused r → after (newAnswer out) (newBytes sender) out ≡ out
+  pub packet-add : (out : List ℕ) (b : Block) (r : Refusal) → addAnswer out b ≡ Refused r → after (addAnswer out b) (grown out (wordsOf b)) out ≡ out
+  pub resend-plan : (event : Event) (s : List ℕ) (b t : ℕ) (out : List ℕ) (r : Refusal) →
+      planAnswer (judged s) (countedAt event s) (length s) b t out ≡ Planned·Refused r → bufferAfter (judged s) (countedAt event s) (length s) b t out ≡ out
+  pub tally-take : (t : Tally) (packet : ℕ) (r : Refusal) → takeOne t packet .answer ≡ Answer·Refused r → takeOne t packet .tally ≡ t

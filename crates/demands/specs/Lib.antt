@@ -1,0 +1,9 @@
+pub mod Verdicts
+pub mod Orders
+pub mod Boundary
+pub mod Lent
+pub mod Places
+pub mod Packets
+pub mod Formulas
+pub mod Cards
+pub mod Demands

@@ -1,0 +1,149 @@
+-- When each call refuses: document 01, "When the set says no". A call's refusals stand in the order in which they are
+-- judged, each beside its condition; the call gives the first whose condition holds, and answers where none does.
+use Prim.Native.Nat.{ℕ, _*_, _/_, _%_}
+use mathlib.Core.Path.{_≡_}
+use mathlib.Core.Bool.{Bool, true, cond, not}
+use mathlib.Core.List.{List, [], _∷_, _++_}
+use lib.Dec.{eqb, leb, ltb}
+use lib.ListN.{length, getD}
+use Rattle.refusal.specs.Table.{packetShort, version, packetType, packetLength, padding, blockPastEnd, noSuchBlock, bufferShort, traceByte, traceLength, cardDigits, cardCheck, cardField, batchLength, setting, blockValue, packetFull}
+use Rattle.refusal.specs.declared.Refusal.{Refusal}
+use Rattle.refusal.specs.declared.Judged.{Judged}
+use Rattle.refusal.specs.declared.Judged.the-variants.{Accepted, Refused}
+use Rattle.settings.specs.Ranges.{limits, burstInRange, batchInRange, inRange}
+use Rattle.settings.specs.declared.Settings.{Settings}
+use Rattle.card.specs.Card.{cardLength, settingsOn, twentyDigits, checkRight, readCard, writeCard}
+use Rattle.block.specs.declared.Block.{Block}
+use Rattle.encode.specs.Words.{wordsOf, writable}
+use Rattle.frame.specs.declared.Extent.{Extent}
+use Rattle.frame.specs.declared.Extent.the-variants.{Whole, Front}
+use Rattle.frame.specs.Frames.{Frames, whole, past, firstBlock, framesIn, entriesOf}
+use Rattle.frame.specs.Packet.{sizeIn, sizeFits, packetOf}
+use Rattle.packet.specs.Answers.{headOf, blockOf}
+use Rattle.survey.specs.Survey.{listAnswer}
+use Rattle.compose.specs.Writing.{newAnswer, lengthAfter, lengthMax, sizeAfter, addAnswer}
+use Rattle.trace.specs.declared.Event.{Event}
+use Rattle.trace.specs.Trace.{packetMax, traceMax, countedAt, lengthInRange, firstBad, judged}
+use Rattle.tally.specs.declared.Tally.{Tally}
+use Rattle.tally.specs.Tally.{openOf, sound, takeOne, closeOf}
+use Rattle.figures.specs.Figures.{figuresIn, summaryOf}
+use Rattle.batch.specs.Loss.{lossAnswer}
+use Rattle.resend.specs.Answer.{planAnswer}
+use Rattle.frame.specs.Packet.{packetIn, locatedOf}
+use Rattle.frame.specs.Laws.{Past-exactly}
+use Rattle.compose.specs.Writing.{appendAnswer}
+use Rattle.batch.specs.Judging.{judgedFor}
+use Rattle.bursts.specs.declared.Sums.{Sums}
+use Rattle.bursts.specs.Sums.{sumsSound}
+use Rattle.bursts.specs.Figures.{measureOf}
+use Rattle.tally.specs.Tally.{ofTrace}
+use Rattle.trace.specs.Laws.{Accepted-trace, Trace-accepted, First-bad}
+use Rattle.demands.specs.Verdicts.{ofWritten, ofCard, ofHead, ofBlock, ofFigures, ofSummary, ofOpened, ofTaken, ofLoss, ofPlanned, ofLocated}
+
+-- a refusal of the table beside its condition
+pub record Row : Type 0 where
+  pub holds : Bool
+  pub refusal : Refusal
+
+abbrev pub when : Bool → Refusal → Row
+when holds refusal = record { holds = holds; refusal = refusal }
+
+-- the first whose condition holds
+unfoldable pub judgedBy : List Row → Judged
+judgedBy [] = Accepted
+judgedBy (row ∷ rows) = cond (row .holds) (Refused (row .refusal)) (judgedBy rows)
+
+-- 1 to 5, of the packet that is s or that stands at its front
+abbrev pub headerRows : Extent → List ℕ → List Row
+headerRows extent s =
+    when (ltb (length s) firstBlock) packetShort
+    ∷ when (not (eqb (getD s 0 0 / 64) 2)) version
+    ∷ when (not (eqb (getD s 1 0) 207)) packetType
+    ∷ when (not (sizeFits extent (sizeIn s) (length s))) packetLength
+    ∷ when (not (eqb (getD s 0 0 / 32 % 2) 0)) padding
+    ∷ []
+
+-- 6: what `past` means is said by `Conditions` below
+abbrev pub pastRows : Frames → List Row
+pastRows (whole es) = []
+pastRows (past offset) = when true (blockPastEnd offset) ∷ []
+
+-- the blocks as far as the length field goes, and how many they are
+abbrev pub framesAt : List ℕ → Frames
+framesAt s = framesIn s firstBlock (sizeIn s)
+
+abbrev pub blocksIn : List ℕ → ℕ
+blocksIn s = length (entriesOf (framesAt s))
+
+abbrev pub packetRows : Extent → List ℕ → List Row
+packetRows extent s = headerRows extent s ++ pastRows (framesAt s)
+
+-- 17 and 8 of n words more
+abbrev pub roomRows : List ℕ → ℕ → List Row
+roomRows s n = when (ltb lengthMax (lengthAfter s n)) packetFull ∷ when (ltb (length s) (sizeAfter s n)) bufferShort ∷ []
+
+-- a block's own refusals, judged already
+abbrev pub ownRows : Judged → List Row
+ownRows Accepted = []
+ownRows (Refused r) = when true r ∷ []
+
+-- 10 and 9 of a trace
+abbrev pub traceRows : List ℕ → List Row
+traceRows s = when (not (lengthInRange s)) traceLength ∷ when (ltb (firstBad s) (length s)) (traceByte (firstBad s)) ∷ []
+
+-- of "Traces: 15, 10, 9, 14, 8" what applies to burst figures
+abbrev pub figuresRows : ℕ → ℕ → List ℕ → List Row
+figuresRows gmin spacing s = when (not (burstInRange gmin spacing)) setting ∷ traceRows s
+
+-- and to batches
+abbrev pub batchRows : List ℕ → ℕ → ℕ → List Row
+batchRows s b t = when (not (batchInRange limits b t)) setting ∷ (traceRows s ++ when (ltb (length s) b) batchLength ∷ [])
+
+-- Every call of the library that can refuse, on any input.
+pub record EachCall : Type 0 where
+  -- "Cards: 11, 12, 13; writing a card: 15, then 8"
+  pub card-read : (c : List ℕ) →
+      ofCard (readCard limits c)
+      ≡ judgedBy (when (not (twentyDigits c)) cardDigits ∷ when (not (checkRight c)) cardCheck ∷ when (not (inRange limits (settingsOn c))) cardField ∷ [])
+  pub card-write : (s : Settings) (out : List ℕ) →
+      ofWritten (writeCard limits s out) ≡ judgedBy (when (not (inRange limits s)) setting ∷ when (ltb (length out) cardLength) bufferShort ∷ [])
+  -- "packets 1, 2, 3, 4, 5, 6, then 7"; 8 for the list of all blocks
+  pub locate : (extent : Extent) (s : List ℕ) (k : ℕ) → ofLocated (locatedOf (packetIn extent s) k) ≡ judgedBy (packetRows extent s)
+  pub packet-head : (s : List ℕ) → ofHead (headOf (packetOf s)) ≡ judgedBy (packetRows Whole s)
+  pub packet-block : (s : List ℕ) (k : ℕ) →
+      ofBlock (blockOf (packetOf s) k) ≡ judgedBy (packetRows Whole s ++ when (leb (blocksIn s) k) noSuchBlock ∷ [])
+  pub packet-list : (s out : List ℕ) →
+      ofWritten (listAnswer (packetOf s) out) ≡ judgedBy (packetRows Whole s ++ when (ltb (length out) (2 * blocksIn s)) bufferShort ∷ [])
+  -- a new packet: 8. "Adding a block: the packet's own, then 16, 17, 8"
+  pub packet-new : (out : List ℕ) → ofWritten (newAnswer out) ≡ judgedBy (when (ltb (length out) firstBlock) bufferShort ∷ [])
+  pub packet-add : (s : List ℕ) (b : Block) →
+      ofWritten (addAnswer s b)
+      ≡ judgedBy (packetRows Front s ++ (when (not (writable b)) blockValue ∷ roomRows s (length (wordsOf b))))
+  pub append : (s : List ℕ) (own : Judged) (n : ℕ) → ofWritten (appendAnswer s own n) ≡ judgedBy (packetRows Front s ++ (ownRows own ++ roomRows s n))
+  -- "Traces: 15, 10, 9, 14, 8", each call as far as it goes
+  pub trace : (s : List ℕ) → judged s ≡ judgedBy (traceRows s)
+  pub batch : (s : List ℕ) (b t : ℕ) → judgedFor (judged s) (length s) b t ≡ judgedBy (batchRows s b t)
+  pub figures : (gmin spacing : ℕ) (event : Event) (s : List ℕ) → ofFigures (figuresIn gmin spacing event s) ≡ judgedBy (figuresRows gmin spacing s)
+  pub block-of-trace : (gmin spacing : ℕ) (event : Event) (s : List ℕ) (source flag : ℕ) →
+      ofSummary (summaryOf event source flag (figuresIn gmin spacing event s)) ≡ judgedBy (figuresRows gmin spacing s)
+  pub effective-loss : (event : Event) (s : List ℕ) (b t : ℕ) →
+      ofLoss (lossAnswer (judged s) (countedAt event s) (length s) b t) ≡ judgedBy (batchRows s b t)
+  pub resend-plan : (event : Event) (s : List ℕ) (b t : ℕ) (out : List ℕ) →
+      ofPlanned (planAnswer (judged s) (countedAt event s) (length s) b t out) ≡ judgedBy (batchRows s b t ++ when (ltb (length out) (length s)) bufferShort ∷ [])
+  -- "Tallies: 15, 10, 9"; sums by themselves as a tally's
+  pub tally-of-trace : (gmin spacing : ℕ) (event : Event) (s : List ℕ) → ofOpened (ofTrace gmin spacing event s) ≡ judgedBy (figuresRows gmin spacing s)
+  pub sums : (r : Sums) → ofFigures (measureOf r) ≡ judgedBy (when (not (sumsSound r)) setting ∷ [])
+  pub tally-open : (gmin spacing : ℕ) (event : Event) → ofOpened (openOf gmin spacing event) ≡ judgedBy (when (not (burstInRange gmin spacing)) setting ∷ [])
+  pub tally-take : (t : Tally) (packet : ℕ) →
+      ofTaken (takeOne t packet .answer)
+      ≡ judgedBy (when (not (sound t)) setting ∷ when (leb traceMax (t .sums .packets)) traceLength ∷ when (ltb packetMax packet) (traceByte 0) ∷ [])
+  pub tally-close : (t : Tally) → ofFigures (closeOf t) ≡ judgedBy (when (not (sound t)) setting ∷ [])
+  pub tally-block : (t : Tally) (source flag : ℕ) → ofSummary (summaryOf (t .event) source flag (closeOf t)) ≡ judgedBy (when (not (sound t)) setting ∷ [])
+
+-- What the conditions say that are computed above: 6 is given exactly where a block runs past the end, placed at the first
+-- such block's offset; 9 is placed at the first bad byte; and an accepted trace has 1 to 65,536 bytes, each 0, 1 or 2.
+pub record Conditions : Type 0 where
+  pub past : Past-exactly
+  pub first-bad : First-bad
+  pub accepted : Accepted-trace
+  pub accepts : Trace-accepted
