@@ -35,7 +35,7 @@ use Rattle.resend.specs.Answer.{planAnswer, bufferAfter}
 pub data Input : Type 0 where
   effective : List ℕ → ℕ → ℕ → Input
   resend : List ℕ → ℕ → ℕ → Input
-  bursts : List ℕ → ℕ → ℕ → Input
+  burst-gap : List ℕ → ℕ → ℕ → Input
   card : List ℕ → Input
   packet : List ℕ → Input
 
@@ -56,7 +56,7 @@ outcome (effective trace b t) = loss (lossAnswer (judged trace) (countedAt Lost 
 outcome (resend trace b t) =
     plan (planAnswer (judged trace) (countedAt Lost trace) (length trace) b t (room trace))
     (bufferAfter (judged trace) (countedAt Lost trace) (length trace) b t (room trace))
-outcome (bursts trace gmin spacing) = figures (figuresIn gmin spacing Lost trace)
+outcome (burst-gap trace gmin spacing) = figures (figuresIn gmin spacing Lost trace)
 outcome (card digits) = settings (readCard limits (map (λ (d : ℕ). 48 + d) digits))
 outcome (packet bytes) = blocks (headOf (packetOf bytes)) (blockOf (packetOf bytes) 0)
 
@@ -84,10 +84,10 @@ sheet =
     ∷ record { given = effective (1 ∷ 1 ∷ 1 ∷ []) 1 0; expected = found 3 3 65535 0 }
     ∷ record { given = effective (0 ∷ []) 2 0; expected = loss (Loss·Refused batchLength) }
     -- P6, P7, P8, P9
-    ∷ record { given = bursts (1 ∷ 0 ∷ 1 ∷ 0 ∷ 0 ∷ 1 ∷ 0 ∷ 0 ∷ 0 ∷ 1 ∷ 1 ∷ []) 2 1000; expected = measured 26214 5461 2 2 }
-    ∷ record { given = bursts (1 ∷ 1 ∷ 1 ∷ []) 16 1000; expected = measured 32768 unavailable 3 0 }
-    ∷ record { given = bursts (1 ∷ []) 16 1000; expected = measured unavailable 32768 unavailable unavailable }
-    ∷ record { given = bursts (0 ∷ 0 ∷ 0 ∷ []) 16 1000; expected = measured unavailable 0 unavailable unavailable }
+    ∷ record { given = burst-gap (1 ∷ 0 ∷ 1 ∷ 0 ∷ 0 ∷ 1 ∷ 0 ∷ 0 ∷ 0 ∷ 1 ∷ 1 ∷ []) 2 1000; expected = measured 26214 5461 2 2 }
+    ∷ record { given = burst-gap (1 ∷ 1 ∷ 1 ∷ []) 16 1000; expected = measured 32768 unavailable 3 0 }
+    ∷ record { given = burst-gap (1 ∷ []) 16 1000; expected = measured unavailable 32768 unavailable unavailable }
+    ∷ record { given = burst-gap (0 ∷ 0 ∷ 0 ∷ []) 16 1000; expected = measured unavailable 0 unavailable unavailable }
     -- P10, P11
     ∷ record {
       given = card (0 ∷ 1 ∷ 6 ∷ 0 ∷ 0 ∷ 1 ∷ 0 ∷ 0 ∷ 0 ∷ 0 ∷ 0 ∷ 1 ∷ 0 ∷ 0 ∷ 0 ∷ 4 ∷ 0 ∷ 0 ∷ 9 ∷ 6 ∷ []);
