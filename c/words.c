@@ -17,8 +17,10 @@ static void check_words(void)
     CHECK(nuvaskoe_refusal_meaning(NUVASKOE_REFUSAL_PACKET_FULL + 1)[0] == '\0');
     for (number = NUVASKOE_VERDICT_BAD_SIZE; number <= NUVASKOE_VERDICT_UNMEASURED; number++) {
         CHECK(nuvaskoe_reason_meaning(number)[0] != '\0');
+        CHECK(nuvaskoe_reason_advice(number)[0] != '\0');
     }
     CHECK(nuvaskoe_reason_meaning(NUVASKOE_VERDICT_TYPED)[0] == '\0');
+    CHECK(nuvaskoe_reason_advice(NUVASKOE_VERDICT_UNKNOWN)[0] == '\0');
 }
 
 int main(void)

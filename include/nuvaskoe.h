@@ -532,7 +532,7 @@ static inline const char *nuvaskoe_refusal_advice(uint32_t number)
     case NUVASKOE_REFUSAL_TRACE_BYTE:
         return "a packet is 0 received, 1 lost or 2 discarded";
     case NUVASKOE_REFUSAL_TRACE_LENGTH:
-        return "measure in shorter stretches";
+        return "hand in at least one packet, and measure in shorter stretches";
     case NUVASKOE_REFUSAL_CARD_DIGITS:
         return "look for a missing digit, a letter or a space";
     case NUVASKOE_REFUSAL_CARD_CHECK:
@@ -542,7 +542,7 @@ static inline const char *nuvaskoe_refusal_advice(uint32_t number)
     case NUVASKOE_REFUSAL_BATCH_LENGTH:
         return "measure longer, or take a smaller batch";
     case NUVASKOE_REFUSAL_SETTING:
-        return "ranges as for 13; a tally is used as it was handed out";
+        return "Gmin 1 to 255, batch 1 to 1,024, threshold 0 to 1,024, spacing 1 to 40,000; a tally is used as it was handed out";
     case NUVASKOE_REFUSAL_BLOCK_VALUE:
         return "flag 1 to 3, rates 0 to 32,768 or 65,535";
     case NUVASKOE_REFUSAL_PACKET_FULL:
@@ -564,6 +564,23 @@ static inline const char *nuvaskoe_reason_meaning(uint32_t verdict)
         return "a rate is between 32,769 and 65,534, which no rate can be";
     case NUVASKOE_VERDICT_UNMEASURED:
         return "no measurement block (14) for its source is in the packet, so its figures have no span";
+    default:
+        return "";
+    }
+}
+
+/* What to do about it. Empty for any other number. */
+static inline const char *nuvaskoe_reason_advice(uint32_t verdict)
+{
+    switch (verdict) {
+    case NUVASKOE_VERDICT_BAD_SIZE:
+        return "its sender lays this type out in another way: tell its maker";
+    case NUVASKOE_VERDICT_BAD_FLAG:
+        return "its sender must set the flag to 1, 2 or 3: tell its maker";
+    case NUVASKOE_VERDICT_BAD_RATE:
+        return "take no figure of this block: its sender measures wrongly";
+    case NUVASKOE_VERDICT_UNMEASURED:
+        return "its sender must put a block 14 for this source into the same packet";
     default:
         return "";
     }

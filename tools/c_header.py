@@ -90,11 +90,12 @@ class Header:
 
     def _texts(self):
         refusals = [(f"NUVASKOE_REFUSAL_{name}", self.source.refusal_words[n]) for name, n in self.source.refusals]
-        reasons = [(f"NUVASKOE_VERDICT_{name}", words) for name, words in self.source.reasons]
+        reasons = [(f"NUVASKOE_VERDICT_{name}", self.source.reason_words[n]) for name, n in self.source.reasons]
         return "\n\n".join([
             switch("What went wrong, by a refusal's number.", "refusal_meaning", "number", [(n, w[0]) for n, w in refusals]),
             switch("What to do about it.", "refusal_advice", "number", [(n, w[1]) for n, w in refusals]),
-            switch("Why a block was dropped, by its verdict.", "reason_meaning", "verdict", reasons),
+            switch("Why a block was dropped, by its verdict.", "reason_meaning", "verdict", [(n, w[0]) for n, w in reasons]),
+            switch("What to do about it.", "reason_advice", "verdict", [(n, w[1]) for n, w in reasons]),
         ])
 
 

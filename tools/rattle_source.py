@@ -32,8 +32,8 @@ class Source:
         self.refusals = self._refusals()
         readme = (root / "README.md").read_text()
         self.refusal_words = _table(readme, "| N | Meaning | What to do |")
-        reason_words = _table(readme, "| Reason | Meaning |")
-        self.reasons = [(name, reason_words[self.constant("block::" + name)[0]][0]) for name in REASONS]
+        self.reason_words = _table(readme, "| Reason | Meaning | What to do |")
+        self.reasons = [(name, self.constant("block::" + name)[0]) for name in REASONS]
         self.places = _places((root / "crates/block/specs/Fields.antt").read_text(),
                               (root / "crates/ffi_block/specs/Answers.antt").read_text())
 

@@ -57,10 +57,34 @@ impl RefusalKind {
 }
 
 impl Reason {
+    /// All reasons, in the order in which they are looked for.
+    pub const ALL: &'static [Reason] = &[
+@all_reasons
+    ];
+
+    /// The number in a listing, from 1.
+    pub fn number(self) -> u32 {
+        match self {
+@reason_numbers
+        }
+    }
+
+    /// The reason with this number.
+    pub fn numbered(number: u32) -> Option<Reason> {
+        Reason::ALL.iter().copied().find(|reason| reason.number() == number)
+    }
+
     /// What is wrong with the block.
     pub fn meaning(self) -> &'static str {
         match self {
-@reasons
+@reason_meanings
+        }
+    }
+
+    /// What to do about it.
+    pub fn advice(self) -> &'static str {
+        match self {
+@reason_advice
         }
     }
 }
@@ -109,13 +133,16 @@ def declared(source, call):
 def refusals_rs(source):
     """The kinds of refusal, their words and those of reasons."""
     rows = [(camel(name.lower()), n, source.refusal_words[n]) for name, n in source.refusals]
-    reasons = [(camel(name.lower()), words) for name, words in source.reasons]
+    reasons = [(camel(name.lower()), n, source.reason_words[n]) for name, n in source.reasons]
     parts = {
         "made": [MADE],
         "variants": [f"    /// {words[0][0].upper()}{words[0][1:]}.\n    {name} = {n}," for name, n, words in rows],
         "all": [f"        RefusalKind::{name}," for name, _, _ in rows],
         "meanings": [f"            RefusalKind::{name} => \"{words[0]}\"," for name, _, words in rows],
         "advice": [f"            RefusalKind::{name} => \"{words[1]}\"," for name, _, words in rows],
-        "reasons": [f"            Reason::{name} => \"{words}\"," for name, words in reasons],
+        "all_reasons": [f"        Reason::{name}," for name, _, _ in reasons],
+        "reason_numbers": [f"            Reason::{name} => {n}," for name, n, _ in reasons],
+        "reason_meanings": [f"            Reason::{name} => \"{words[0]}\"," for name, _, words in reasons],
+        "reason_advice": [f"            Reason::{name} => \"{words[1]}\"," for name, _, words in reasons],
     }
     return re.sub(r"@(\w+)", lambda m: "\n".join(parts[m[1]]), REFUSALS)

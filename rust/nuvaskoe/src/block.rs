@@ -138,10 +138,7 @@ impl Verdict {
         match self {
             Verdict::Typed(_) => boundary::VERDICT_TYPED,
             Verdict::Unknown => boundary::VERDICT_UNKNOWN,
-            Verdict::Dropped(Reason::BadSize) => boundary::VERDICT_BAD_SIZE,
-            Verdict::Dropped(Reason::BadFlag) => boundary::VERDICT_BAD_FLAG,
-            Verdict::Dropped(Reason::BadRate) => boundary::VERDICT_BAD_RATE,
-            Verdict::Dropped(Reason::Unmeasured) => boundary::VERDICT_UNMEASURED,
+            Verdict::Dropped(reason) => reason.number(),
         }
     }
 }

@@ -111,12 +111,12 @@ impl RefusalKind {
             RefusalKind::NoSuchBlock => "blocks are numbered from 0",
             RefusalKind::BufferShort => "lend more: 20 bytes for a card, a byte a packet for a plan, two entries a block for a list",
             RefusalKind::TraceByte => "a packet is 0 received, 1 lost or 2 discarded",
-            RefusalKind::TraceLength => "measure in shorter stretches",
+            RefusalKind::TraceLength => "hand in at least one packet, and measure in shorter stretches",
             RefusalKind::CardDigits => "look for a missing digit, a letter or a space",
             RefusalKind::CardCheck => "a digit is wrong, or two are exchanged: compare with the master card",
             RefusalKind::CardField => "Gmin 1 to 255, batch 1 to 1,024, threshold 0 to 1,024, spacing 1 to 40,000",
             RefusalKind::BatchLength => "measure longer, or take a smaller batch",
-            RefusalKind::Setting => "ranges as for 13; a tally is used as it was handed out",
+            RefusalKind::Setting => "Gmin 1 to 255, batch 1 to 1,024, threshold 0 to 1,024, spacing 1 to 40,000; a tally is used as it was handed out",
             RefusalKind::BlockValue => "flag 1 to 3, rates 0 to 32,768 or 65,535",
             RefusalKind::PacketFull => "begin another",
         }
@@ -124,6 +124,29 @@ impl RefusalKind {
 }
 
 impl Reason {
+    /// All reasons, in the order in which they are looked for.
+    pub const ALL: &'static [Reason] = &[
+        Reason::BadSize,
+        Reason::BadFlag,
+        Reason::BadRate,
+        Reason::Unmeasured,
+    ];
+
+    /// The number in a listing, from 1.
+    pub fn number(self) -> u32 {
+        match self {
+            Reason::BadSize => 1,
+            Reason::BadFlag => 2,
+            Reason::BadRate => 3,
+            Reason::Unmeasured => 4,
+        }
+    }
+
+    /// The reason with this number.
+    pub fn numbered(number: u32) -> Option<Reason> {
+        Reason::ALL.iter().copied().find(|reason| reason.number() == number)
+    }
+
     /// What is wrong with the block.
     pub fn meaning(self) -> &'static str {
         match self {
@@ -131,6 +154,16 @@ impl Reason {
             Reason::BadFlag => "its interval flag is 0, which is reserved",
             Reason::BadRate => "a rate is between 32,769 and 65,534, which no rate can be",
             Reason::Unmeasured => "no measurement block (14) for its source is in the packet, so its figures have no span",
+        }
+    }
+
+    /// What to do about it.
+    pub fn advice(self) -> &'static str {
+        match self {
+            Reason::BadSize => "its sender lays this type out in another way: tell its maker",
+            Reason::BadFlag => "its sender must set the flag to 1, 2 or 3: tell its maker",
+            Reason::BadRate => "take no figure of this block: its sender measures wrongly",
+            Reason::Unmeasured => "its sender must put a block 14 for this source into the same packet",
         }
     }
 }

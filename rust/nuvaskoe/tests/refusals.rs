@@ -11,14 +11,10 @@ fn words() {
     assert_eq!(meanings.len(), RefusalKind::ALL.len());
     assert_eq!(advice.len(), RefusalKind::ALL.len());
     assert!(!meanings.contains("") && !advice.contains(""));
-    let reasons = [
-        Reason::BadSize,
-        Reason::BadFlag,
-        Reason::BadRate,
-        Reason::Unmeasured,
-    ];
-    let reasons = BTreeSet::from(reasons.map(Reason::meaning));
-    assert!(reasons.len() == 4 && !reasons.contains(""));
+    let meanings: BTreeSet<_> = Reason::ALL.iter().map(|r| r.meaning()).collect();
+    let advice: BTreeSet<_> = Reason::ALL.iter().map(|r| r.advice()).collect();
+    assert!(meanings.len() == 4 && !meanings.contains(""));
+    assert!(advice.len() == 4 && !advice.contains(""));
 }
 
 #[test]
@@ -30,6 +26,21 @@ fn numbers() {
     let none = RefusalKind::ALL.len() as u32 + 1;
     for number in [0, none, 255, 256, 257, u32::MAX] {
         assert_eq!(RefusalKind::numbered(number), None, "{number}");
+    }
+    // D1 to D4.
+    let reasons = [
+        Reason::BadSize,
+        Reason::BadFlag,
+        Reason::BadRate,
+        Reason::Unmeasured,
+    ];
+    assert_eq!(Reason::ALL, reasons);
+    for (place, reason) in reasons.iter().enumerate() {
+        assert_eq!(reason.number() as usize, place + 1);
+        assert_eq!(Reason::numbered(reason.number()), Some(*reason));
+    }
+    for number in [0, 5, 255, u32::MAX] {
+        assert_eq!(Reason::numbered(number), None, "{number}");
     }
 }
 

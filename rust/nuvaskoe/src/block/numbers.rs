@@ -17,13 +17,10 @@ impl Reading {
             }
             without_fields => {
                 unused(&answer.fields);
-                match without_fields {
-                    boundary::VERDICT_BAD_SIZE => Verdict::Dropped(Reason::BadSize),
-                    boundary::VERDICT_BAD_FLAG => Verdict::Dropped(Reason::BadFlag),
-                    boundary::VERDICT_BAD_RATE => Verdict::Dropped(Reason::BadRate),
-                    boundary::VERDICT_UNMEASURED => Verdict::Dropped(Reason::Unmeasured),
-                    boundary::VERDICT_UNKNOWN => Verdict::Unknown,
-                    other => unreachable!("verdict {other}"),
+                match Reason::numbered(without_fields) {
+                    Some(reason) => Verdict::Dropped(reason),
+                    None if without_fields == boundary::VERDICT_UNKNOWN => Verdict::Unknown,
+                    None => unreachable!("verdict {without_fields}"),
                 }
             }
         };
