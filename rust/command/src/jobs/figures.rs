@@ -1,0 +1,102 @@
+//! Burst and gap figures of a trace.
+
+use super::Job;
+use crate::{
+    answer::{Answer, Failure},
+    arguments::{Arguments, JSON},
+    json::{object, Object},
+    settings::{self, Bursts, BATCH, CARD, GMIN, SPACING, THRESHOLD},
+    trace::{self, Trace, FORM},
+    words,
+};
+use nuvaskoe::{
+    figures::{self, Figures},
+    trace::Event,
+};
+
+pub const FIGURES: Job = Job {
+    name: "figures",
+    usage: "--card CARD TRACE",
+    purpose: "burst and gap figures of lost and of discarded packets",
+    words: "\
+A burst is two or more losses with fewer than Gmin packets between one and the
+next; a loss by itself lies in a gap. Each figure is given as the 16-bit number
+that a report packet holds, and in words. The number is rounded down, and the
+words are those of the number: 4 of 5 lost is 79.999 %. The number 65535 is of
+a figure that could not be measured, 65534 of a mean or variance that is too
+large to send.
+",
+    options: &[CARD, GMIN, BATCH, THRESHOLD, SPACING, FORM, JSON],
+    takes: trace::ONE,
+    example: "\
+$ echo 10100 10001 1 | nuvaskoe figures --gmin 2 --spacing 1000 -
+standard input: 11 packets, taken as digits
+Gmin 2 packets, spacing 1000 microseconds
+
+lost
+  burst rate      26214  79.999 % of the packets in bursts were lost
+  gap rate         5461  16.666 % of the packets outside bursts were lost
+  burst mean          2  2 milliseconds
+  burst variance      2  2 square milliseconds
+discarded
+  burst rate      65535  could not be measured: there were no packets in bursts
+  gap rate            0  0.000 %, fewer than 1 in 32768, of the packets outside bursts were discarded
+  burst mean      65535  could not be measured: there was no burst
+  burst variance  65535  could not be measured: there was no burst
+",
+    run,
+};
+
+fn run(arguments: &Arguments) -> Result<Answer<'_>, Failure> {
+    let settings = settings::given(arguments)?.bursts()?;
+    let trace = trace::read(arguments, arguments.word())?;
+    let lost = of(&trace, &settings, Event::Lost)?;
+    let discarded = of(&trace, &settings, Event::Discarded)?;
+    let words = [in_words(&lost, "lost"), in_words(&discarded, "discarded")].concat();
+    let numbers = [
+        ("lost", numbers(&lost).into()),
+        ("discarded", numbers(&discarded).into()),
+    ];
+    let one = trace.answer(&settings, &words, object(numbers));
+    Ok(Answer::One(one))
+}
+
+fn of(trace: &Trace, settings: &Bursts, event: Event) -> Result<Figures, Failure> {
+    let figures = figures::of_trace(&trace.packets, settings.gmin, settings.spacing, event);
+    figures.map_err(|refusal| trace.refused(refusal, settings))
+}
+
+fn in_words(figures: &Figures, event: &str) -> String {
+    let (burst, gap) = (figures.burst_rate, figures.gap_rate);
+    let (mean, variance) = (figures.mean, figures.variance);
+    let rows = [
+        (
+            "burst rate",
+            burst.0,
+            words::rate(burst, "packets in bursts", event),
+        ),
+        (
+            "gap rate",
+            gap.0,
+            words::rate(gap, "packets outside bursts", event),
+        ),
+        ("burst mean", mean.0, words::figure(mean, "milliseconds")),
+        (
+            "burst variance",
+            variance.0,
+            words::figure(variance, "square milliseconds"),
+        ),
+    ];
+    let rows = rows.map(|(name, sent, words)| format!("  {name:<14}  {sent:>5}  {words}\n"));
+    format!("{event}\n{}", rows.concat())
+}
+
+/// As `nuvaskoe_burst_figures`.
+fn numbers(figures: &Figures) -> Object {
+    object([
+        ("burst_rate", figures.burst_rate.0.into()),
+        ("gap_rate", figures.gap_rate.0.into()),
+        ("burst_mean", figures.mean.0.into()),
+        ("burst_variance", figures.variance.0.into()),
+    ])
+}

@@ -1,0 +1,70 @@
+//! Effective loss of a trace.
+
+use super::Job;
+use crate::{
+    answer::{Answer, Failure},
+    arguments::{Arguments, JSON},
+    json::object,
+    settings::{self, Batches, BATCH, CARD, GMIN, SPACING, THRESHOLD},
+    trace::{self, FORM},
+    words,
+};
+use nuvaskoe::effective::{self, EffectiveLoss};
+
+pub const LOSS: Job = Job {
+    name: "loss",
+    usage: "--card CARD TRACE",
+    purpose: "effective loss: how many batches are beyond repair",
+    words: "\
+Batches are all runs of B packets, each beginning one packet after the one
+before. A batch with more than T lost packets is over the threshold: it cannot
+be repaired. K of N batches are; the index is their share as a report packet
+holds it, in parts of 65,535, rounded down. Packets are numbered from 0. A
+discarded packet is no loss here.
+",
+    options: &[CARD, GMIN, BATCH, THRESHOLD, SPACING, FORM, JSON],
+    takes: trace::ONE,
+    example: "\
+$ echo 011 010 100 | nuvaskoe loss --batch 3 --threshold 1 -
+standard input: 9 packets, taken as digits
+batch 3 packets, threshold 1 loss
+
+  batches over the threshold, K      4
+  batches in all, N                  7
+  effective loss index           37448  57.142 %
+  first batch over               packets 0 to 2
+",
+    run,
+};
+
+fn run(arguments: &Arguments) -> Result<Answer<'_>, Failure> {
+    let settings = settings::given(arguments)?.batches()?;
+    let trace = trace::read(arguments, arguments.word())?;
+    let loss = effective::effective_loss(&trace.packets, settings.batch, settings.threshold);
+    let loss = loss.map_err(|refusal| trace.refused(refusal, &settings))?;
+    let numbers = object([
+        ("over", loss.over.into()),
+        ("batches", loss.batches.into()),
+        ("index", loss.index.0.into()),
+        ("found", u32::from(loss.first.is_some()).into()),
+        ("first", loss.first.unwrap_or(0).into()),
+    ]);
+    let one = trace.answer(&settings, &in_words(&loss, &settings), numbers);
+    Ok(Answer::One(one))
+}
+
+fn in_words(loss: &EffectiveLoss, settings: &Batches) -> String {
+    let (over, batches, index) = (loss.over, loss.batches, loss.index);
+    let first = match loss.first {
+        Some(first) => words::run(first, settings.batch),
+        None => "none".into(),
+    };
+    let per_cent = words::index(index, over);
+    [
+        format!("  batches over the threshold, K  {over:>5}\n"),
+        format!("  batches in all, N              {batches:>5}\n"),
+        format!("  effective loss index           {index:>5}  {per_cent}\n"),
+        format!("  first batch over               {first}\n"),
+    ]
+    .concat()
+}

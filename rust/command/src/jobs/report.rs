@@ -1,0 +1,223 @@
+//! A report packet made from a measured trace: blocks 14, 17, 18 and 240.
+
+use super::Job;
+use crate::{
+    answer::{Answer, Failure},
+    arguments::{Arguments, Opt, JSON},
+    listing, output,
+    settings::{self, All, BATCH, CARD, GMIN, SPACING, THRESHOLD},
+    trace::{self, Trace, FORM},
+};
+use nuvaskoe::{
+    block::{Block, Effective, Measurement},
+    effective, figures, packet, Refusal,
+};
+use std::ffi::OsStr;
+
+const SENDER: Opt = Opt {
+    name: "--sender",
+    value: Some("S"),
+    words: "who reports, one to eight hex digits",
+};
+const SOURCE: Opt = Opt {
+    name: "--source",
+    value: Some("S"),
+    words: "whose packets were measured, one to eight hex digits",
+};
+const FLAG: Opt = Opt {
+    name: "--flag",
+    value: Some("F"),
+    words: "2 figures of an interval, 3 since the start, 1 a sample",
+};
+const FIRST: Opt = Opt {
+    name: "--first",
+    value: Some("N"),
+    words: "sequence number of the first packet of all, to 65535",
+};
+const EXTENDED_FIRST: Opt = Opt {
+    name: "--extended-first",
+    value: Some("N"),
+    words: "extended sequence number of the interval's first",
+};
+const EXTENDED_LAST: Opt = Opt {
+    name: "--extended-last",
+    value: Some("N"),
+    words: "extended sequence number of the last",
+};
+const INTERVAL: Opt = Opt {
+    name: "--interval",
+    value: Some("N"),
+    words: "the interval, in parts of 1/65,536 of a second",
+};
+const SECONDS: Opt = Opt {
+    name: "--seconds",
+    value: Some("N"),
+    words: "the time since the start, in whole seconds",
+};
+const FRACTION: Opt = Opt {
+    name: "--fraction",
+    value: Some("N"),
+    words: "the rest of it, in parts of 1/4,294,967,296 of a second",
+};
+const OUT: Opt = output::option("where the packet goes; - is standard output");
+
+pub const REPORT: Job = Job {
+    name: "report",
+    usage: "--card CARD --sender S --source S --flag F --first N
+    --extended-first N --extended-last N --interval N --seconds N --fraction N
+    TRACE -o FILE",
+    purpose: "a report packet made from a measured trace",
+    words: "\
+The packet has four blocks on its source: what was measured (14), bursts and
+gaps of lost packets (17) and of discarded ones (18), and effective loss (240).
+A trace holds no sequence numbers and no clock, so the numbers of block 14 are
+given as the receiver has them: 16 milliseconds are 1048 as an interval and
+68719476 as a fraction. The job `list` then shows the packet.
+",
+    options: &[
+        CARD,
+        GMIN,
+        BATCH,
+        THRESHOLD,
+        SPACING,
+        SENDER,
+        SOURCE,
+        FLAG,
+        FIRST,
+        EXTENDED_FIRST,
+        EXTENDED_LAST,
+        INTERVAL,
+        SECONDS,
+        FRACTION,
+        FORM,
+        OUT,
+        JSON,
+    ],
+    takes: trace::ONE,
+    example: "\
+$ echo 0110 1010 0200 0000 | nuvaskoe report --card 00200003000010100094 \\
+    --sender 1 --source 2 --flag 2 --first 100 --extended-first 100 \\
+    --extended-last 115 --interval 1048 --seconds 0 --fraction 68719476 \\
+    - -o example.xr
+standard input: 16 packets, taken as digits
+Gmin 2 packets, spacing 1000 microseconds, batch 3 packets, threshold 1 loss
+
+  80 bytes to example.xr
+$ nuvaskoe list example.xr
+ssrc 00000001 blocks 4
+0 meas source 00000002 first 100 efirst 100 elast 115 interval 1048 seconds 0 fraction 68719476
+1 loss source 00000002 i 2 burst 21845 gap 0 mean 6 var 0
+2 discard source 00000002 i 2 burst none gap 2048
+3 eli source 00000002 index 18724
+",
+    run,
+};
+
+/// The options that have to be there, beside the settings.
+const NEEDED: [&Opt; 10] = [
+    &SENDER,
+    &SOURCE,
+    &FLAG,
+    &FIRST,
+    &EXTENDED_FIRST,
+    &EXTENDED_LAST,
+    &INTERVAL,
+    &SECONDS,
+    &FRACTION,
+    &OUT,
+];
+
+/// Enough for the four blocks.
+const ROOM: usize = 128;
+
+fn run(arguments: &Arguments) -> Result<Answer<'_>, Failure> {
+    arguments.need(&NEEDED, None)?;
+    let (sender, span, flag) = (hex(arguments, &SENDER)?, span(arguments)?, flag(arguments)?);
+    let settings = settings::given(arguments)?.all()?;
+    let trace = trace::read(arguments, arguments.word())?;
+    let blocks = measured(&trace, &settings, span, flag)?;
+    let refused = |refusal| trace.refused(refusal, flag_in_words(flag));
+    let packet = made(sender, &blocks).map_err(refused)?;
+    let numbers = listing::numbers(&packet).map_err(refused)?;
+    let one = trace.answer(&settings, "", numbers);
+    Ok(Answer::One(output::with(arguments, one, packet)))
+}
+
+/// The four blocks.
+fn measured(
+    trace: &Trace,
+    settings: &All,
+    span: Measurement,
+    flag: u8,
+) -> Result<[Block; 4], Failure> {
+    let (packets, source) = (&trace.packets, span.source);
+    let (gmin, spacing) = (settings.bursts.gmin, settings.bursts.spacing);
+    let (batch, threshold) = (settings.batches.batch, settings.batches.threshold);
+    let refused = |refusal| trace.refused(refusal, settings);
+    let lost = figures::loss_of_trace(packets, gmin, spacing, source, flag).map_err(refused)?;
+    let discarded =
+        figures::discard_of_trace(packets, gmin, spacing, source, flag).map_err(refused)?;
+    let effective = effective::effective_loss(packets, batch, threshold).map_err(refused)?;
+    let index = effective.index;
+    Ok([
+        Block::Measurement(span),
+        Block::Loss(lost),
+        Block::Discard(discarded),
+        Block::Effective(Effective { source, index }),
+    ])
+}
+
+/// The packet with these blocks.
+fn made(sender: u32, blocks: &[Block]) -> Result<Vec<u8>, Refusal> {
+    let mut packet = vec![0; ROOM];
+    let mut size = packet::new(sender, &mut packet)?;
+    for block in blocks {
+        size = packet::add(&mut packet, block)?;
+    }
+    packet.truncate(size);
+    Ok(packet)
+}
+
+/// The block 14, as it is given.
+fn span(arguments: &Arguments) -> Result<Measurement, Failure> {
+    Ok(Measurement {
+        source: hex(arguments, &SOURCE)?,
+        first: held(arguments, &FIRST)?,
+        extended_first: held(arguments, &EXTENDED_FIRST)?,
+        extended_last: held(arguments, &EXTENDED_LAST)?,
+        interval: held(arguments, &INTERVAL)?,
+        seconds: held(arguments, &SECONDS)?,
+        fraction: held(arguments, &FRACTION)?,
+    })
+}
+
+/// Every flag above 3 is refused, so one that no byte can hold is handed on as the largest.
+fn flag(arguments: &Arguments) -> Result<u8, Failure> {
+    let flag = arguments.number(&FLAG)?.unwrap_or_default();
+    Ok(u8::try_from(flag).unwrap_or(u8::MAX))
+}
+
+fn flag_in_words(flag: u8) -> String {
+    match flag {
+        u8::MAX => format!("flag {flag} or more"),
+        _ => format!("flag {flag}"),
+    }
+}
+
+/// The number of an option, which its field has to hold.
+fn held<T: TryFrom<u64>>(arguments: &Arguments, option: &Opt) -> Result<T, Failure> {
+    let number = arguments.number(option)?.unwrap_or_default();
+    T::try_from(number).map_err(|_| arguments.bad(option, "is too large for its field"))
+}
+
+/// A sender or source as the listing shows it.
+fn hex(arguments: &Arguments, option: &Opt) -> Result<u32, Failure> {
+    let text = arguments.text(option).and_then(OsStr::to_str);
+    let digits = text.unwrap_or_default();
+    let digits = digits.strip_prefix("0x").unwrap_or(digits);
+    let number = match digits.bytes().all(|digit| digit.is_ascii_hexdigit()) && digits.len() <= 8 {
+        true => u32::from_str_radix(digits, 16).ok(),
+        false => None,
+    };
+    number.ok_or_else(|| arguments.bad(option, "is not one to eight hex digits"))
+}
