@@ -1,6 +1,7 @@
 #!/usr/bin/env python3
-"""Installs the library into a folder of its own and builds a C program of ten lines against what was installed, by the
-flags of its pkg-config file. Run in the repository's root after tools/archive.sh.
+"""Installs the library and the command into a folder of its own, builds a C program of ten lines against what was installed,
+by the flags of its pkg-config file, and runs the command from there on the samples that were installed. Run in the
+repository's root after tools/archive.sh.
 """
 import os
 import pathlib
@@ -48,6 +49,13 @@ def main():
         printed = subprocess.run([str(program)], capture_output=True, text=True, check=True).stdout
         major, minor, patch = (int(part) for part in version.split("."))
         assert printed == f"gmin 16 of {major * 10000 + minor * 100 + patch}\n", printed
+        told = subprocess.run([prefix / "bin/nuvaskoe", "--version"], capture_output=True, text=True, check=True).stdout
+        assert told == f"nuvaskoe {version}\n", told
+        told = subprocess.run([prefix / "bin/nuvaskoe", "list", "samples/p12.xr"], cwd=prefix / "share/doc/nuvaskoe",
+                              capture_output=True, text=True, check=True).stdout
+        assert told == "ssrc 00000001 blocks 1\n0 eli source 00000002 index 37448\n", told
+        for name in ("man/man1/nuvaskoe.1", "bash-completion/completions/nuvaskoe"):
+            assert "nuvaskoe" in (prefix / "share" / name).read_text()
         kept = sorted(str(path.relative_to(prefix)) for path in prefix.rglob("*") if path.is_file())
         print("install.py: a program runs against", ", ".join(kept))
 

@@ -1,0 +1,38 @@
+"""Runs target/bin/nuvaskoe on files as a person would: each job on good and bad input, each exit status.
+
+What it answers is compared with document 01 computed a second time (document01.py), its lines with the program `listing`, and
+its JSON is read by python's parser. Run as `python3 tests/command` in the repository's root after `make command` and
+`rt check listing`. Prints one line; exit status 1 with the first thing that is wrong.
+"""
+import pathlib
+import re
+import sys
+import tempfile
+
+sys.dont_write_bytecode = True  # a run leaves no files in the tree
+sys.path.append(str(pathlib.Path(__file__).resolve().parent.parent))
+import cards
+import packets
+import traces
+import usage
+from run import Run
+
+# Every function of these that is named so.
+CHECKS = [check for module in (traces, cards, packets, usage) for name, check in vars(module).items() if name.startswith("check_")]
+# The names of JSON that are none of the header's: what was read, lists of answers, and what has no name in C.
+OWN_NAMES = {"file", "form", "list", "cards", "explained", "lost", "discarded", "marked", "offset", "kind", "meaning", "advice",
+             "files", "error"}
+
+
+def main():
+    for check in CHECKS:
+        with tempfile.TemporaryDirectory() as folder:
+            check(pathlib.Path(folder))
+    header = re.sub(r"/\*.*?\*/|\"[^\"]*\"", "", pathlib.Path("include/nuvaskoe.h").read_text(), flags=re.S)
+    names = set(re.findall(r"\w+", header))
+    assert Run.names - names == OWN_NAMES, Run.names - names ^ OWN_NAMES
+    print(f"command: {Run.count} runs of the command went as they should")
+
+
+if __name__ == "__main__":
+    main()
