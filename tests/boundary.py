@@ -37,6 +37,7 @@ DRIFTS = [
     ("another place of the packets covered", "crates/ffi_block/specs/Answers.antt", "take 3 (fieldsOf", "take 4 (fieldsOf"),
     ("two fields exchanged in layout order", "crates/block/specs/Fields.antt", "e .source ∷ e .index", "e .index ∷ e .source"),
     ("other words of a refusal", "README.md", "the card's check does not fit", "the card does not fit"),
+    ("other advice on a reason", "README.md", "its sender measures wrongly", "its sender is wrong"),
 ]
 
 
