@@ -29,7 +29,8 @@ use Rattle.packet.specs.Laws.{Unmeasured}
 use Rattle.packet.proofs.Measuring.{read-at}
 use Rattle.packet.proofs.Judging.{own-but-unmeasured, unmeasured-exactly}
 use Rattle.packet.proofs.Named.{measured-exactly}
-use Rattle.survey.specs.Survey.{verdictOf, listing}
+use Rattle.verdict.specs.Verdict.{verdictOf}
+use Rattle.survey.specs.Survey.{listing}
 use Rattle.compose.proofs.Growing.{new-read}
 use Rattle.compose.proofs.Reading.{behind, added-read}
 use Rattle.demands.specs.Packets.{offset, BlockFound, Lacking, PacketsRead, PacketsWritten, BlocksAgain}

@@ -22,7 +22,8 @@ use Rattle.packet.specs.declared.PacketHead.the-variants.{Sent}
 use Rattle.packet.specs.declared.BlockAt.the-variants.{Found, Refused}
 use Rattle.packet.specs.Answers.{headOf, blockOf, bodyOf, bodyStart}
 use Rattle.packet.specs.Laws.{MeasuredAt}
-use Rattle.survey.specs.Survey.{verdictOf, listOf}
+use Rattle.verdict.specs.Verdict.{verdictOf}
+use Rattle.survey.specs.Survey.{listOf}
 use Rattle.compose.specs.Laws.{afterAdd, New-read, Add, Appended, Added-read}
 use Rattle.demands.specs.Places.{blockLength, IsBlock}
 

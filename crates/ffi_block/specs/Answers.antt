@@ -1,4 +1,4 @@
--- What the boundary's struct holds for each answer about one block: its verdict as survey numbers it, and its fields.
+-- What the boundary's struct holds for each answer about one block: its verdict as crate verdict numbers it, and its fields.
 use Prim.Native.Nat.{ℕ}
 use mathlib.Core.List.{List, _∷_, _++_}
 use lib.ListN.{replicate, take, drop}
@@ -8,7 +8,7 @@ use Rattle.block.specs.declared.Block.{Block}
 use Rattle.block.specs.declared.Block.the-variants.{Measured, Loss, Discard, Effective, Streams}
 use Rattle.block.specs.declared.BlockRead.{BlockRead}
 use Rattle.block.specs.declared.BlockRead.the-variants.{Typed, Unknown, Dropped}
-use Rattle.survey.specs.Survey.{verdictOf}
+use Rattle.verdict.specs.Verdict.{verdictOf}
 use Rattle.ffi_answer.specs.Answers.{none}
 use Rattle.ffi_block.specs.declared.BlockFields.{BlockFields}
 

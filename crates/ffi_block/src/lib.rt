@@ -115,14 +115,14 @@ pub fn read_out(kind: u8, r: BlockRead) -> BlockFields
             BlockFields {
                 refusal: NONE,
                 block_type: kind as u32,
-                verdict: survey::TYPED as u32,
+                verdict: verdict::TYPED as u32,
                 fields,
             }
         }
         BlockRead::Unknown => BlockFields {
             refusal: NONE,
             block_type: kind as u32,
-            verdict: survey::UNKNOWN as u32,
+            verdict: verdict::UNKNOWN as u32,
             fields: NO_FIELDS,
         },
         BlockRead::Dropped(reason) => BlockFields {

@@ -1,7 +1,7 @@
 -- What the boundary's structs hold for each answer about a packet: the paper's number and place where the call
 -- refused, 0 and 0 where it answered; and the values, 0 where it refused.
 use Rattle.block.specs.declared.BlockRead.the-variants.{Unknown}
-use Rattle.survey.specs.Survey.{verdictOf}
+use Rattle.verdict.specs.Verdict.{verdictOf}
 use Rattle.packet.specs.declared.PacketHead.{PacketHead}
 use Rattle.packet.specs.declared.PacketHead.the-variants.{Sent, Refused as Head·Refused}
 use Rattle.packet.specs.declared.BlockAt.{BlockAt}

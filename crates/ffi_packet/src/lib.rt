@@ -24,7 +24,7 @@ pub struct Packet {
 }
 
 // Of a refused call: 0 would read as typed.
-const NO_VERDICT: u32 = survey::UNKNOWN as u32;
+const NO_VERDICT: u32 = verdict::UNKNOWN as u32;
 
 pub fn packet_out(h: PacketHead) -> Packet
     ensures { λ r. ⌜ r ≡ packetOut h ⌝ }

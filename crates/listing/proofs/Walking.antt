@@ -24,7 +24,8 @@ use Rattle.packet.specs.Steps.{blocksOf}
 use Rattle.packet.proofs.Measuring.{read-at}
 use Rattle.packet.proofs.Chosen.{blocks-are, blocks-whole}
 use Rattle.packet.proofs.Judging.{own-but-unmeasured}
-use Rattle.survey.specs.Survey.{verdictOf, listing, listOf, listAnswer}
+use Rattle.verdict.specs.Verdict.{verdictOf}
+use Rattle.survey.specs.Survey.{listing, listOf, listAnswer}
 use Rattle.text.specs.Laws.{Put}
 use Rattle.text.proofs.Room.{end-room, put-room}
 use Rattle.text.proofs.Joined.{keeps-length}

@@ -10,7 +10,7 @@ ghost use lib.ListN.{length};
 ghost use Rattle.frame.specs.Frames.{nextAt, entryAt};
 ghost use Rattle.packet.specs.Blocks.{readIn};
 ghost use Rattle.packet.specs.Steps.{blocksOf};
-ghost use Rattle.survey.specs.Survey.{verdictOf};
+ghost use Rattle.verdict.specs.Verdict.{verdictOf};
 ghost use Rattle.lines.specs.Lines.{lineRoom};
 ghost use Rattle.listing.specs.Room.{Listed, judgedBy, lineAt, Added};
 

@@ -1,7 +1,3 @@
-pub mod Members
-pub mod Searching
-pub mod Alone
-pub mod Verdict
 pub mod Marking
 pub mod Settling
 pub mod Spreading

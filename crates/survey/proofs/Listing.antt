@@ -18,9 +18,9 @@ use Rattle.packet.specs.Steps.{blocksOf}
 use Rattle.frame.specs.declared.Extent.the-variants.{Whole}
 use Rattle.frame.proofs.Locating.{Here}
 use Rattle.packet.proofs.Chosen.{blocks-are, blocks-whole}
+use Rattle.verdict.proofs.Members.{permuted-member, later}
 use Rattle.survey.specs.Survey.{listing, listOf, listAnswer}
 use Rattle.survey.specs.Packed.{packing, spreadOf, Room, Marked, Settleable}
-use Rattle.survey.proofs.Members.{permuted-member, later}
 use Rattle.survey.proofs.Marking.{packing-length}
 use Rattle.survey.proofs.Spreading.{spread-packing}
 

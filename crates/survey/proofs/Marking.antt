@@ -1,8 +1,7 @@
 -- The walk that marks the blocks and gathers the measured sources, as plain lists and numbers: its invariant, start,
 -- turn and end. Assumes nothing.
 use Prim.Native.Nat.{ℕ, suc, _+_, _*_, _<_, _≤_}
-use mathlib.Core.Path.{_≡_, refl, sym, ap, ap₂, _∙_}
-use mathlib.Core.Bool.{Bool, true, false, _||_}
+use mathlib.Core.Path.{_≡_, refl, sym, ap, _∙_}
 use mathlib.Core.List.{List, [], _∷_, _++_, append-nil}
 use native.Mathlib.Omega.{arith}
 use native.Mathlib.Numerals.{add-one}
@@ -13,13 +12,13 @@ use Rattle.frame.proofs.Stepping.{first-of, at-end}
 use Rattle.frame.proofs.Blocks.{block-next}
 use Rattle.block.specs.Reading.{readBytes, measuresOf}
 use Rattle.block.specs.declared.BlockRead.{BlockRead}
-use Rattle.packet.specs.Blocks.{readAlone, names, measures, measured, readAmong, readIn}
+use Rattle.packet.specs.Blocks.{readAlone, measured, readAmong, readIn}
 use Rattle.packet.specs.Steps.{blocksOf}
 use Rattle.packet.proofs.Measuring.{read-at}
-use Rattle.survey.specs.Survey.{verdictOf}
-use Rattle.survey.specs.Sources.{member, Grown}
+use Rattle.verdict.specs.Verdict.{verdictOf}
+use Rattle.verdict.specs.Sources.{member, gatheredCount, gatheredTable}
+use Rattle.verdict.proofs.Members.{gather-grows, grown-measured, later}
 use Rattle.survey.specs.Packed.{verdicts, packing, Room, Marked}
-use Rattle.survey.proofs.Members.{later}
 
 pub packing-length : (all es : List Entry) → length (packing all es) ≡ length es
 unfolding packing
@@ -31,16 +30,6 @@ pub packing-snoc : (all es : List Entry) (e : Entry) (rest : List ℕ) →
 unfolding packing
 packing-snoc all [] e rest = refl
 packing-snoc all (f ∷ es) e rest = rw (packing-snoc all es e rest)
-
-measured-snoc : (x : ℕ) (es : List Entry) (e : Entry) → measured x (es ++ (e ∷ [])) ≡ (measures x e || measured x es)
-unfolding measured
-measured-snoc x [] e = refl
-measured-snoc x (f ∷ es) e = rw (measured-snoc x es e) (swap (measures x f) (measures x e) (measured x es))
-  where
-    swap : (p q r : Bool) → (p || (q || r)) ≡ (q || (p || r))
-    swap true true r = refl
-    swap true false r = refl
-    swap false q r = refl
 
 -- The walk stands at `at`: the blocks passed are packed from `count` on, and the first k entries are their sources.
 pub record Mark (s old : List ℕ) (count : ℕ) (out : List ℕ) (at i k : ℕ) : Type 0 where
@@ -87,20 +76,21 @@ module _ (s old : List ℕ) (count : ℕ) (room : Room s old count) where
         (omega arith, omega arith)
 
     pub mark-on : (h : at < length s) (bytes : List ℕ) → bytes ≡ blockAt s at → (v : ℕ) → v ≡ verdictOf (readAmong [] (readBytes bytes)) → (r : ℕ) (new : List ℕ) →
-        Grown (measuresOf (readBytes bytes)) (set out i (at * verdicts + v)) new k r → Mark s old count new (at + length bytes) (i + 1) r
+        r ≡ gatheredCount (measuresOf (readBytes bytes)) (length (set out i (at * verdicts + v))) k →
+        new ≡ gatheredTable (measuresOf (readBytes bytes)) (set out i (at * verdicts + v)) k → Mark s old count new (at + length bytes) (i + 1) r
     unfolding entryAt
-    mark-on h bytes b v j r new grow =
+    mark-on h bytes b v j r new count-is table-is =
         let alone : readBytes bytes ≡ readAlone (entryAt s at) = ap readBytes b ∙ read-at s at (mark-fits h) in
         let is : v ≡ verdictOf (readIn [] (entryAt s at)) = j ∙ ap (λ (a : BlockRead). verdictOf (readAmong [] a)) alone in
         let e = block-next s at bytes (mark-fits h) b in
-        let same-source : (x : ℕ) → names (measuresOf (readBytes bytes)) x ≡ measures x (entryAt s at) = λ x. ap (λ (a : BlockRead). names (measuresOf a) x) alone in
         let first = first-of s at (length s) (m .left) h (m .frames) in
         let within = mark-room h in
         let fits = room .fits in
         let few = m .few in
-        let more = grow .few in
         let index = m .index in
         let long = m .long in
+        let grow = gather-grows (measuresOf (readBytes bytes)) (set out i (at * verdicts + v)) new k r (rw length-set (omega arith)) count-is table-is in
+        let more = grow .few in
         record {
           passed = m .passed ++ (entryAt s at ∷ []);
           left = first .rest;
@@ -108,9 +98,9 @@ module _ (s old : List ℕ) (count : ℕ) (room : Room s old count) where
           frames = rw e (first .after);
           index = ap (λ (n : ℕ). n + 1) index ∙ sym (rw (length-append (m .passed) (entryAt s at ∷ [])) (omega arith));
           few = rw (length-append (m .passed) (entryAt s at ∷ [])) (omega arith);
-          same = λ x.
-              grow .same x ∙ ap₂ (λ (a : Bool) (l : List ℕ). a || member x l) (same-source x) (take-set-le k out i (at * verdicts + v) (omega arith))
-              ∙ ap (λ (b : Bool). measures x (entryAt s at) || b) (m .same x) ∙ sym (measured-snoc x (m .passed) (entryAt s at));
+          same =
+              grown-measured (m .passed) (entryAt s at) (readBytes bytes) (set out i (at * verdicts + v)) new k r alone grow
+              (λ x. ap (member x) (take-set-le k out i (at * verdicts + v) (omega arith)) ∙ m .same x);
           packed =
               later (k + 1) count new (set out i (at * verdicts + v)) (omega arith) (grow .rest)
               ∙ ap (λ (n : ℕ). drop count (set out n (at * verdicts + v))) index

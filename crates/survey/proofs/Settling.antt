@@ -16,10 +16,10 @@ use Rattle.frame.specs.Frames.{Entry, whole, nextAt, entryAt, framesIn, firstBl
 use Rattle.frame.proofs.Stepping.{First, first-of, some-left}
 use Rattle.packet.specs.Blocks.{measured, readIn}
 use Rattle.packet.specs.Steps.{blocksOf}
-use Rattle.survey.specs.Survey.{verdictOf}
-use Rattle.survey.specs.Sources.{member, Table}
+use Rattle.verdict.specs.Verdict.{verdictOf}
+use Rattle.verdict.specs.Sources.{member, Table}
+use Rattle.verdict.proofs.Verdict.{verdict-small, settled, found, missed}
 use Rattle.survey.specs.Packed.{verdicts, packedOf, packing, Settleable}
-use Rattle.survey.proofs.Verdict.{verdict-small, settled, found, missed}
 use Rattle.survey.proofs.Marking.{packing-length, packing-snoc}
 
 -- one block: what it was packed as, and what it becomes

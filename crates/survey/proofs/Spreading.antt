@@ -8,10 +8,11 @@ use lib.ListN.{length, getD, take, drop, set, length-set, length-drop, take-appe
 use lib.Seq.{take-suc, take-suc-set, drop-set-lt, getD-drop, append-snoc}
 use Rattle.frame.specs.Frames.{Entry}
 use Rattle.packet.specs.Blocks.{readIn}
-use Rattle.survey.specs.Survey.{verdictOf, listing}
+use Rattle.verdict.specs.Verdict.{verdictOf}
+use Rattle.verdict.proofs.Members.{later}
+use Rattle.verdict.proofs.Verdict.{verdict-small}
+use Rattle.survey.specs.Survey.{listing}
 use Rattle.survey.specs.Packed.{verdicts, packing, spreadOf}
-use Rattle.survey.proofs.Members.{later}
-use Rattle.survey.proofs.Verdict.{verdict-small}
 
 -- packed blocks taken apart are the list of blocks
 pub spread-packing : (all es : List Entry) → spreadOf (packing all es) ≡ listing all es

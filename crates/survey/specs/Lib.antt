@@ -1,5 +1,3 @@
 pub mod Survey
-pub mod Sources
 pub mod Packed
-pub mod Alone
 pub mod Laws

@@ -8,8 +8,8 @@ use lib.ListN.{length, take, drop}
 use Rattle.frame.specs.Frames.{Entry}
 use Rattle.packet.specs.Blocks.{measured, readIn}
 use Rattle.packet.specs.Steps.{blocksOf, WholeBlocks}
-use Rattle.survey.specs.Survey.{verdictOf}
-use Rattle.survey.specs.Sources.{member, Table}
+use Rattle.verdict.specs.Verdict.{verdictOf}
+use Rattle.verdict.specs.Sources.{member, Table}
 
 -- more than any verdict
 abbrev pub verdicts : ℕ

@@ -7,17 +7,10 @@ use Rattle.refusal.specs.Table.{bufferShort}
 use Rattle.refusal.specs.Answer.{unless}
 use Rattle.refusal.specs.declared.Written.{Written}
 use Rattle.refusal.specs.declared.Written.the-variants.{Size, Refused}
-use Rattle.block.specs.declared.BlockRead.{BlockRead}
-use Rattle.block.specs.declared.BlockRead.the-variants.{Typed, Unknown, Dropped}
 use Rattle.frame.specs.Frames.{Entry}
 use Rattle.frame.specs.Packet.{Packet, good, bad}
 use Rattle.packet.specs.Blocks.{readIn}
-
--- what reading a block comes to as a number: 0 typed, the reason 1 to 4 where dropped, 255 unknown
-abbrev pub verdictOf : BlockRead → ℕ
-verdictOf (Typed b) = 0
-verdictOf (Dropped reason) = reason
-verdictOf Unknown = 255
+use Rattle.verdict.specs.Verdict.{verdictOf}
 
 -- all blocks: for each its place and its verdict
 unfoldable pub listing : List Entry → List Entry → List ℕ

@@ -35,7 +35,7 @@ has-requires c κs = search needs
 returns-2 : tie.Need-returns-2
 returns-2 c =
     rw (eq-eqb (c .before .before .before .before .before .before .args .packed % verdicts) unmeasured (c .before .before .before .if1 .left))
-    (c .has .ensures ∙ c .before .before .before .before .before .before .pre .same (c .before .u32-at .result) ∙ ap (λ (source : ℕ). measured source (blocksOf (c .before .before .before .before .before .before .args .s .now))) (c .before .u32-at .ensures))
+    (c .has .ensures (c .before .before .before .before .before .before .pre .sorted) ∙ c .before .before .before .before .before .before .pre .same (c .before .u32-at .result) ∙ ap (λ (source : ℕ). measured source (blocksOf (c .before .before .before .before .before .before .args .s .now))) (c .before .u32-at .ensures))
 
 pub is-measured-spec : {M : Type 1} → statement M
 is-measured-spec =

@@ -2,7 +2,7 @@
 use Prim.Native.Nat.{_+_, _-_, _<_, _≤_}
 use mathlib.Core.Path.{_≡_}
 use native.Mathlib.Omega.{arith}
-use lib.ListN.{length, length-set}
+use lib.ListN.{length}
 use Rattle.frame.specs.Frames.{nextAt}
 use Rattle.frame.proofs.Blocks.{block-next}
 use Rattle.survey.proofs.Marking.{Mark, mark-start, mark-fits, mark-room, mark-on, mark-end}
@@ -44,14 +44,14 @@ cast-out c = omega (arith, small (c .before))
 mul-out : tie.Need-mul-out Inv-loop μ-loop
 mul-out c = omega (arith, small (c .before))
 
-verdict-unmeasured-requires : tie.Need-verdict-unmeasured-requires Inv-loop μ-loop
-verdict-unmeasured-requires c κs = omega (arith, next c)
+alone-requires : tie.Need-alone-requires Inv-loop μ-loop
+alone-requires c κs = search needs
 
 cast-out-2 : tie.Need-cast-out-2 Inv-loop μ-loop
-cast-out-2 c = omega (arith, c .verdict-unmeasured .ok)
+cast-out-2 c = omega (arith, c .alone .ok)
 
 add-out : tie.Need-add-out Inv-loop μ-loop
-add-out c = omega (arith, c .verdict-unmeasured .ok, small (c .before .before))
+add-out c = omega (arith, c .alone .ok, small (c .before .before))
 
 mul-out-2 : tie.Need-mul-out-2 Inv-loop μ-loop
 mul-out-2 c = omega (arith, room (c .before .before), c .before .before .before .before .before .before .good .1 .0 .1)
@@ -60,7 +60,7 @@ slice-write-out : tie.Need-slice-write-out Inv-loop μ-loop
 slice-write-out c = omega (arith, room (c .before .before), c .before .before .before .loop .inv .long)
 
 gather-requires : tie.Need-gather-requires Inv-loop μ-loop
-gather-requires c κs = simp length-set (omega (arith, room (c .before .before .before), c .before .before .before .before .loop .inv .long))
+gather-requires c κs = search needs
 
 add-at : tie.Need-add-at Inv-loop μ-loop
 add-at c = omega (arith, next (c .before .before .before .before .before), small (c .before .before .before .before .before .before))
@@ -74,7 +74,7 @@ loop-less c = omega (arith, next (c .before .before .before .before .before), c 
 loop-again : tie.Need-loop-again Inv-loop μ-loop
 loop-again c =
     let at = c .before .before .before .before .before in
-    mark-on _ _ _ (at .before .before .before .before .before .pre) _ _ _ _ (at .before .before .loop .inv) (omega (arith, at .before)) _ (at .block-at .ensures .0) _ (c .before .before .before .before .verdict-unmeasured .ensures) _ _ (c .before .before .gather .ensures)
+    mark-on _ _ _ (at .before .before .before .before .before .pre) _ _ _ _ (at .before .before .loop .inv) (omega (arith, at .before)) _ (at .block-at .ensures .0) _ (c .before .before .before .before .alone .ensures) _ _ (c .before .before .gather .ensures .0) (c .before .before .gather .ensures .1)
 
 same-length : tie.Need-same-length Inv-loop μ-loop
 same-length c = c .before .loop .inv .long
@@ -92,7 +92,7 @@ mark-spec =
     block-at-requires
     cast-out
     mul-out
-    verdict-unmeasured-requires
+    alone-requires
     cast-out-2
     add-out
     mul-out-2

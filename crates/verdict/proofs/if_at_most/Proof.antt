@@ -1,10 +1,10 @@
--- `survey::if_at_most` meets its contract. Assumes nothing.
+-- `verdict::if_at_most` meets its contract. Assumes nothing.
 use native.Mathlib.Omega.{arith}
 use native.Mathlib.Nat.{lt-of-le-of-lt}
-use Rattle.survey.proofs.Searching.{carried, at-most-once}
+use Rattle.verdict.proofs.Searching.{carried, at-most-once}
 use borrow.Author.Needs.{needs}
-use Rattle.survey.proofs.if_at_most.Statement.{statement}
-use Rattle.survey.proofs.if_at_most.Tie as tie
+use Rattle.verdict.proofs.if_at_most.Statement.{statement}
+use Rattle.verdict.proofs.if_at_most.Tie as tie
 
 add-carry : tie.Need-add-carry
 add-carry c = search needs

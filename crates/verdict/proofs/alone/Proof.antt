@@ -1,9 +1,13 @@
--- `survey::verdict_unmeasured` meets its contract: each arm is a case of Alone.antt. Assumes nothing.
+-- `verdict::alone` meets its contract: each arm is a case of OwnBytes.antt. Assumes nothing.
 use mathlib.Core.Path.{_∙_}
-use Rattle.survey.proofs.Alone.{of-measurement, of-loss, of-discard, of-effective, of-streams, of-others}
+use native.Mathlib.Omega.{arith}
+use Rattle.verdict.proofs.OwnBytes.{of-measurement, of-loss, of-discard, of-effective, of-streams, of-others, of-few}
 use borrow.Author.Needs.{needs}
-use Rattle.survey.proofs.verdict_unmeasured.Statement.{statement}
-use Rattle.survey.proofs.verdict_unmeasured.Tie as tie
+use Rattle.verdict.proofs.alone.Statement.{statement}
+use Rattle.verdict.proofs.alone.Tie as tie
+
+returns : tie.Need-returns
+returns c = of-few _ (omega arith)
 
 shared-slice-read-kind : tie.Need-shared-slice-read-kind
 shared-slice-read-kind c = search needs
@@ -44,28 +48,29 @@ add-size-verdict-3 c = search needs
 size-verdict-requires-3 : tie.Need-size-verdict-requires-3
 size-verdict-requires-3 c κs = search needs
 
-returns : tie.Need-returns
-returns c = c .size-verdict .ensures ∙ of-measurement _ (c .before .before .before .before .pre) (c .before .match .keys1)
-
 returns-2 : tie.Need-returns-2
-returns-2 c = c .summary-verdict .ensures ∙ of-loss _ (c .before .before .before .before .before .pre) (c .before .before .match .keys2)
+returns-2 c = c .size-verdict .ensures ∙ of-measurement _ (omega arith) (c .before .match .keys1)
 
 returns-3 : tie.Need-returns-3
-returns-3 c = c .summary-verdict2 .ensures ∙ of-discard _ (c .before .before .before .before .before .pre) (c .before .before .match .keys3)
+returns-3 c = c .summary-verdict .ensures ∙ of-loss _ (omega arith) (c .before .before .match .keys2)
 
 returns-4 : tie.Need-returns-4
-returns-4 c = c .size-verdict2 .ensures ∙ of-effective _ (c .before .before .before .before .pre) (c .before .match .keys4)
+returns-4 c = c .summary-verdict2 .ensures ∙ of-discard _ (omega arith) (c .before .before .match .keys3)
 
 returns-5 : tie.Need-returns-5
-returns-5 c = c .size-verdict3 .ensures ∙ of-streams _ (c .before .before .before .before .pre) (c .before .match .keys5)
+returns-5 c = c .size-verdict2 .ensures ∙ of-effective _ (omega arith) (c .before .match .keys4)
 
 returns-6 : tie.Need-returns-6
-returns-6 c = let r = c .match .rest in of-others _ (c .before .before .before .pre) (r .0 .0 .0 .0 .1) (r .0 .0 .0 .1) (r .0 .0 .1) (r .0 .1) (r .1)
+returns-6 c = c .size-verdict3 .ensures ∙ of-streams _ (omega arith) (c .before .match .keys5)
 
-pub verdict-unmeasured-spec : {M : Type 1} → statement M
-verdict-unmeasured-spec =
+returns-7 : tie.Need-returns-7
+returns-7 c = let r = c .match .rest in of-others _ (omega arith) (r .0 .0 .0 .0 .1) (r .0 .0 .0 .1) (r .0 .0 .1) (r .0 .1) (r .1)
+
+pub alone-spec : {M : Type 1} → statement M
+alone-spec =
     tie.close
     (tie.spec
+    returns
     shared-slice-read-kind
     add-size-verdict
     size-verdict-requires
@@ -79,9 +84,9 @@ verdict-unmeasured-spec =
     size-verdict-requires-2
     add-size-verdict-3
     size-verdict-requires-3
-    returns
     returns-2
     returns-3
     returns-4
     returns-5
-    returns-6)
+    returns-6
+    returns-7)

@@ -1,11 +1,11 @@
 -- The verdict of a block from its bytes is that of what reading them gives, where nothing is measured. Assumes nothing.
-use Prim.Native.Nat.{ℕ, _+_, _*_, _≤_}
+use Prim.Native.Nat.{ℕ, _+_, _*_, _<_, _≤_}
 use mathlib.Core.Path.{_≡_, refl, sym, ap, ap₂, _∙_}
 use mathlib.Core.Bool.{Bool, true, false}
 use mathlib.Core.List.{List, []}
 use native.Mathlib.Omega.{arith}
 use native.Mathlib.Decide.{ℕ-discrete}
-use borrow.Author.Tests.{eq-eqb, ne-eqb, le-leb}
+use borrow.Author.Tests.{eq-eqb, ne-eqb, le-leb, lt-leb}
 use lib.ListN.{length, getD, drop, length-drop}
 use lib.Seq.{getD-drop}
 use Rattle.refusal.specs.Answer.{unless}
@@ -18,8 +18,8 @@ use Rattle.block.specs.declared.Block.{Block}
 use Rattle.block.specs.declared.BlockRead.the-variants.{Typed, Dropped}
 use Rattle.block.specs.declared.Needs.the-variants.{Nothing, MeasurementOf}
 use Rattle.packet.specs.Blocks.{measured, readAmong}
-use Rattle.survey.specs.Survey.{verdictOf}
-use Rattle.survey.specs.Alone.{sizeVerdict, summaryVerdict}
+use Rattle.verdict.specs.Verdict.{verdictOf}
+use Rattle.verdict.specs.Alone.{sizeVerdict, summaryVerdict}
 
 module _ (bytes : List ℕ) (some : 4 ≤ length bytes) where
   abbrev body : List ℕ
@@ -81,3 +81,8 @@ module _ (bytes : List ℕ) (some : 4 ≤ length bytes) where
   pub of-others : (getD bytes 0 0 ≡ measurementType → ⊥) → (getD bytes 0 0 ≡ lossType → ⊥) → (getD bytes 0 0 ≡ discardType → ⊥) → (getD bytes 0 0 ≡ effectiveType → ⊥) → (getD bytes 0 0 ≡ streamsType → ⊥) → Is 255
   unfolding readBytes readBlock
   of-others a b c d e = rw (le-leb 4 (length bytes) some, ne-eqb _ _ a, ne-eqb _ _ b, ne-eqb _ _ c, ne-eqb _ _ d, ne-eqb _ _ e)
+
+-- fewer than four bytes
+pub of-few : (bytes : List ℕ) → length bytes < 4 → 255 ≡ verdictOf (readAmong [] (readBytes bytes))
+unfolding readBytes
+of-few bytes h = rw (lt-leb 4 (length bytes) h)

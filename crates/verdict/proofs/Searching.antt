@@ -1,4 +1,5 @@
--- Search by halves in a sorted table: the invariant, one turn and the end. Assumes nothing.
+-- Search by halves: the invariant, one turn and the end. It stays inside any table, and in a sorted one it finds. Assumes
+-- nothing.
 use Prim.Native.Nat.{ℕ, _+_, _-_, _*_, _/_, _<_, _≤_}
 use mathlib.Core.Path.{_≡_, sym, ap, _∙_}
 use mathlib.Core.Bool.{Bool, true, false, cond}
@@ -10,33 +11,45 @@ use borrow.Author.Tests.{eq-eqb, ne-eqb, le-leb, lt-leb}
 use lib.Dec.{eqb, leb}
 use lib.ListN.{length, getD}
 use Rattle.sorting.specs.Order.{Sorted}
-use Rattle.survey.specs.Sources.{member}
-use Rattle.survey.proofs.Members.{nowhere, somewhere}
+use Rattle.verdict.specs.Sources.{member}
+use Rattle.verdict.proofs.Members.{nowhere, somewhere}
 
--- x, if it stands anywhere, stands among the size numbers from low on
+-- x, if it stands anywhere in a sorted table, stands among the size numbers from low on
 pub record Halves (table : List ℕ) (x low size : ℕ) : Type 0 where
-  pub some : 0 < size
-  pub within : low + size ≤ length table
   pub below : 0 < low → getD table low 0 ≤ x
   pub above : (i : ℕ) → low + size ≤ i → i < length table → x < getD table i 0
 
-pub halves-all : (table : List ℕ) (x : ℕ) → 0 < length table → Halves table x 0 (length table)
-halves-all table x h = record { some = h; within = omega arith; below = λ l. absurd (omega arith); above = λ i g l. absurd (omega arith) }
+pub record Search (table : List ℕ) (x low size : ℕ) : Type 0 where
+  pub some : 0 < size
+  pub within : low + size ≤ length table
+  pub halves : Sorted table → Halves table x low size
+
+pub search-all : (table : List ℕ) (x : ℕ) → 0 < length table → Search table x 0 (length table)
+search-all table x h =
+    record {
+      some = h;
+      within = omega arith;
+      halves = λ sorted. record { below = λ l. absurd (omega arith); above = λ i g l. absurd (omega arith) };
+    }
 
 at-most : (t : Bool) (n : ℕ) → cond t n 0 ≤ n
 at-most true n = omega arith
 at-most false n = omega arith
 
 -- one turn goes on in the upper half or in the lower
-pub halves-on : (table : List ℕ) (x low size step : ℕ) → Sorted table → Halves table x low size → 1 < size →
-    step ≡ cond (leb (getD table (low + size / 2) 0) x) (size / 2) 0 → Halves table x (low + step) (size - size / 2)
-halves-on table x low size step sorted h more is = go (decLe (getD table (low + size / 2) 0) x)
+pub search-on : (table : List ℕ) (x low size step : ℕ) → Search table x low size → 1 < size →
+    step ≡ cond (leb (getD table (low + size / 2) 0) x) (size / 2) 0 → Search table x (low + step) (size - size / 2)
+search-on table x low size step h more is = go (decLe (getD table (low + size / 2) 0) x)
   where
-    go : Dec (getD table (low + size / 2) 0 ≤ x) → Halves table x (low + step) (size - size / 2)
+    go : Dec (getD table (low + size / 2) 0 ≤ x) → Search table x (low + step) (size - size / 2)
     go (yes le) =
         let up : step ≡ size / 2 = is ∙ rw (le-leb (getD table (low + size / 2) 0) x le) in
         let within = h .within in
-        rw up (record { some = omega arith; within = omega arith; below = λ l. le; above = λ i g l. h .above i (omega arith) l })
+        rw up (record {
+          some = omega arith;
+          within = omega arith;
+          halves = λ sorted. record { below = λ l. le; above = λ i g l. h .halves sorted .above i (omega arith) l };
+        })
     go (no gt) =
         let down : step ≡ 0 = is ∙ rw (lt-leb (getD table (low + size / 2) 0) x (omega arith)) in
         let same : low + 0 ≡ low = omega arith in
@@ -44,16 +57,20 @@ halves-on table x low size step sorted h more is = go (decLe (getD table (low + 
         rw (down, same) (record {
           some = omega arith;
           within = omega arith;
-          below = h .below;
-          above = λ i g l. let order = sorted (low + size / 2) i (omega arith) l in omega arith;
+          halves = λ sorted. record {
+            below = h .halves sorted .below;
+            above = λ i g l. let order = sorted (low + size / 2) i (omega arith) l in omega arith;
+          };
         })
 
-pub halves-step : (table : List ℕ) (x low size step : ℕ) → step ≡ cond (leb (getD table (low + size / 2) 0) x) (size / 2) 0 → step ≤ size / 2
-halves-step table x low size step is = rw is (at-most (leb (getD table (low + size / 2) 0) x) (size / 2))
+pub search-step : (table : List ℕ) (x low size step : ℕ) →
+    step ≡ cond (leb (getD table (low + size / 2) 0) x) (size / 2) 0 → step ≤ size / 2
+search-step table x low size step is = rw is (at-most (leb (getD table (low + size / 2) 0) x) (size / 2))
 
 -- one number is left
-pub halves-end : (table : List ℕ) (x low size : ℕ) → Sorted table → Halves table x low size → size ≤ 1 → eqb (getD table low 0) x ≡ member x table
-halves-end table x low size sorted h one = go (ℕ-discrete (getD table low 0) x)
+pub search-end : (table : List ℕ) (x low size : ℕ) → Search table x low size → size ≤ 1 → Sorted table →
+    eqb (getD table low 0) x ≡ member x table
+search-end table x low size h one sorted = go (ℕ-discrete (getD table low 0) x)
   where
     inside : low < length table
     inside = let some = h .some in let within = h .within in omega arith
@@ -61,10 +78,10 @@ halves-end table x low size sorted h one = go (ℕ-discrete (getD table low 0) x
     apart : (getD table low 0 ≡ x → ⊥) → (i : ℕ) → i < length table → getD table i 0 ≡ x → Dec (i < low) → Dec (i ≡ low) → ⊥
     apart ne i l e (yes before) d =
         let order = sorted i low (omega arith) inside in
-        let below = h .below (omega arith) in
+        let below = h .halves sorted .below (omega arith) in
         ne (omega arith)
     apart ne i l e (no after) (yes here) = ne (ap (λ (n : ℕ). getD table n 0) (sym here) ∙ e)
-    apart ne i l e (no after) (no other) = let above = h .above i (omega arith) l in omega arith
+    apart ne i l e (no after) (no other) = let above = h .halves sorted .above i (omega arith) l in omega arith
 
     go : Dec (getD table low 0 ≡ x) → eqb (getD table low 0) x ≡ member x table
     go (yes e) = eq-eqb (getD table low 0) x e ∙ sym (somewhere table x low inside e)

@@ -1,12 +1,12 @@
--- `survey::summary_verdict` meets its contract: each return is a line of the definition. Assumes nothing.
+-- `verdict::summary_verdict` meets its contract: each return is a line of the definition. Assumes nothing.
 use mathlib.Core.Path.{_≡_, sym, _∙_}
 use mathlib.Core.Bool.{true}
 use borrow.Author.Tests.{eq-eqb, ne-eqb, not-true, not-false}
 use Rattle.wire.specs.BigEndian.{u16At}
 use Rattle.block.specs.Reading.{flagGood, ratesGood}
 use borrow.Author.Needs.{needs}
-use Rattle.survey.proofs.summary_verdict.Statement.{statement}
-use Rattle.survey.proofs.summary_verdict.Tie as tie
+use Rattle.verdict.proofs.summary_verdict.Statement.{statement}
+use Rattle.verdict.proofs.summary_verdict.Tie as tie
 
 returns : tie.Need-returns
 returns c = rw (ne-eqb _ _ (c .if1 .taken))

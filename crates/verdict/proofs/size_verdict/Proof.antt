@@ -1,8 +1,8 @@
--- `survey::size_verdict` meets its contract: each return is a line of the definition. Assumes nothing.
+-- `verdict::size_verdict` meets its contract: each return is a line of the definition. Assumes nothing.
 use borrow.Author.Tests.{eq-eqb, ne-eqb}
 use borrow.Author.Needs.{needs}
-use Rattle.survey.proofs.size_verdict.Statement.{statement}
-use Rattle.survey.proofs.size_verdict.Tie as tie
+use Rattle.verdict.proofs.size_verdict.Statement.{statement}
+use Rattle.verdict.proofs.size_verdict.Tie as tie
 
 returns : tie.Need-returns
 returns c = rw (ne-eqb _ _ (c .if1 .taken))

@@ -12,7 +12,7 @@ use Rattle.wire.specs.BigEndian.{be16, be32, u32At}
 use Rattle.wire.proofs.Numbers.{u32-inside}
 use Rattle.block.specs.Types.{unmeasured}
 use Rattle.block.specs.Layouts.{lossIn, discardIn}
-use Rattle.block.specs.Reading.{needsOf}
+use Rattle.block.specs.Reading.{needsOf, readBlock}
 use Rattle.block.proofs.Cases.{typed-answers}
 use Rattle.block.proofs.Reasons.{own-reasons}
 use Rattle.block.specs.declared.Block.{Block}
@@ -25,23 +25,22 @@ use Rattle.packet.specs.Blocks.{readAlone, measured, given, readAmong, readIn}
 use Rattle.packet.specs.Laws.{Unmeasured}
 use Rattle.packet.proofs.Chosen.{body-long}
 use Rattle.packet.proofs.Judging.{unmeasured-exactly}
-use Rattle.survey.specs.Survey.{verdictOf}
-use Rattle.survey.specs.Packed.{verdicts}
+use Rattle.verdict.specs.Verdict.{verdictOf}
 
--- every verdict fits a packed number
-pub verdict-small : (es : List Entry) (e : Entry) → verdictOf (readIn es e) < verdicts
+-- every verdict fits a byte
+pub verdict-small : (es : List Entry) (e : Entry) → verdictOf (readIn es e) < 256
 unfolding readAlone
 verdict-small es e = go (readAlone e) refl
   where
-    by-measured : (b : Block) (m : Bool) → verdictOf (unless m (Dropped unmeasured) (Typed b)) < verdicts
+    by-measured : (b : Block) (m : Bool) → verdictOf (unless m (Dropped unmeasured) (Typed b)) < 256
     by-measured b true = omega arith
     by-measured b false = omega arith
 
-    by-need : (b : Block) (needs : Needs) → verdictOf (given es needs (Typed b)) < verdicts
+    by-need : (b : Block) (needs : Needs) → verdictOf (given es needs (Typed b)) < 256
     by-need b Nothing = omega arith
     by-need b (MeasurementOf source) = by-measured b (measured source es)
 
-    go : (own : BlockRead) → readAlone e ≡ own → verdictOf (readAmong es own) < verdicts
+    go : (own : BlockRead) → readAlone e ≡ own → verdictOf (readAmong es own) < 256
     go (Typed b) o = by-need b (needsOf b)
     go Unknown o = omega arith
     go (Dropped reason) o = let few = own-reasons (e .kind) (e .specific) (e .body) reason o in omega arith
@@ -61,16 +60,17 @@ settled es e h = go (readAlone e) h
     go (Dropped reason) n = refl
 
 -- the source that a typed block needs a measurement of is the one that its body begins with
-needs-source : (e : Entry) (b : Block) (source : ℕ) → readAlone e ≡ Typed b → needsOf b ≡ MeasurementOf source → (source ≡ be32 (e .body) 0) × (4 ≤ length (e .body))
-unfolding readAlone lossIn discardIn
-needs-source e b source r =
-    typed-answers (e .specific) (e .body) (λ type block. needsOf block ≡ MeasurementOf source → (source ≡ be32 (e .body) 0) × (4 ≤ length (e .body)))
+pub needs-source : (type specific : ℕ) (body : List ℕ) (b : Block) (source : ℕ) → readBlock type specific body ≡ Typed b →
+    needsOf b ≡ MeasurementOf source → (source ≡ be32 body 0) × (4 ≤ length body)
+unfolding lossIn discardIn
+needs-source type specific body b source r =
+    typed-answers specific body (λ type block. needsOf block ≡ MeasurementOf source → (source ≡ be32 body 0) × (4 ≤ length body))
     (λ size n. let z : _≡_ {A = ℕ} 0 1 = cc in absurd (omega arith))
     (λ size g n. (cc, omega arith))
     (λ size g n. (cc, omega arith))
     (λ size n. let z : _≡_ {A = ℕ} 0 1 = cc in absurd (omega arith))
     (λ size n. let z : _≡_ {A = ℕ} 0 1 = cc in absurd (omega arith))
-    (e .kind) b r
+    type b r
 
 -- a block that is D4 there is D4 where its source is not measured, and otherwise typed
 dropped-so : (answer : BlockRead) → verdictOf answer ≡ unmeasured → answer ≡ Dropped unmeasured
@@ -92,8 +92,9 @@ module _ (s : List ℕ) (at : ℕ) (fits : nextAt s at ≤ length s) (w : verdic
       byte j l = getD-take (bodyLength s at) (drop (at + 4) s) j 0 l ∙ getD-drop (at + 4) s j 0
 
   waiting : (u : Unmeasured [] (entryAt s at)) (es : List Entry) (m : Bool) → measured (u32At s (at + 4)) es ≡ m → verdictOf (unless m (Dropped unmeasured) (Typed (u .block))) ≡ verdictOf (readIn es (entryAt s at))
+  unfolding readAlone
   waiting u es m h =
-      let is = needs-source (entryAt s at) (u .block) (u .source) (u .typed) (u .needs) in
+      let is = needs-source (entryAt s at .kind) (entryAt s at .specific) (entryAt s at .body) (u .block) (u .source) (u .typed) (u .needs) in
       let source : u .source ≡ u32At s (at + 4) = is .0 ∙ body-source (is .1) in
       rw (u .typed, u .needs, source, h)
 

@@ -1,18 +1,23 @@
 -- Which numbers stand in a list: in a list taken apart, by positions, in a list with the same numbers in another
 -- order; and a table that grows by the source of one block. Assumes nothing.
 use Prim.Native.Nat.{ℕ, zero, suc, _+_, _-_, _<_, _≤_}
-use mathlib.Core.Path.{_≡_, refl, sym, ap, _∙_}
+use mathlib.Core.Path.{_≡_, refl, sym, ap, ap₂, _∙_}
 use mathlib.Core.Bool.{Bool, true, false, cond, _||_, or-assoc}
 use mathlib.Core.List.{List, [], _∷_, _++_}
 use native.Mathlib.Omega.{arith}
 use native.Mathlib.Numerals.{add-one}
-use borrow.Author.Tests.{eq-eqb, ne-eqb}
+use borrow.Author.Tests.{eq-eqb, ne-eqb, le-leb, lt-leb}
 use lib.Dec.{eqb}
 use lib.ListN.{length, getD, take, drop, set, length-set}
 use lib.Seq.{take-suc-set, drop-set-lt, drop-drop}
 use Rattle.sorting.specs.Order.{one, times, Permuted}
+use Rattle.block.specs.Reading.{measuresOf}
+use Rattle.block.specs.declared.BlockRead.{BlockRead}
+use Rattle.block.specs.declared.Measures.{Measures}
 use Rattle.block.specs.declared.Measures.the-variants.{Source, Nothing}
-use Rattle.survey.specs.Sources.{member, Grown}
+use Rattle.frame.specs.Frames.{Entry}
+use Rattle.packet.specs.Blocks.{readAlone, names, measures, measured}
+use Rattle.verdict.specs.Sources.{member, gatheredCount, gatheredTable, Grown}
 
 member-append : (x : ℕ) (s t : List ℕ) → member x (s ++ t) ≡ (member x s || member x t)
 unfolding member
@@ -53,7 +58,7 @@ pub permuted-member : (old new : List ℕ) → Permuted old new → (x : ℕ) �
 permuted-member old new p x = by-times x new ∙ ap some (p .same x) ∙ sym (by-times x old)
 
 -- a table that grows by the source of one block, where it measures one
-pub grown : (old : List ℕ) (k x : ℕ) → k < length old → Grown (Source x) old (set old k x) k (k + 1)
+grown : (old : List ℕ) (k x : ℕ) → k < length old → Grown (Source x) old (set old k x) k (k + 1)
 unfolding member
 grown old k x l =
     record {
@@ -71,8 +76,45 @@ grown old k x l =
     swap false true = refl
     swap false false = refl
 
-pub kept : (old : List ℕ) (k : ℕ) → Grown Nothing old old k k
+kept : (old : List ℕ) (k : ℕ) → Grown Nothing old old k k
 kept old k = record { same = λ y. refl; few = omega arith; rest = refl; long = refl }
+
+pub gather-grows : (m : Measures) (old new : List ℕ) (k r : ℕ) → k < length old →
+    r ≡ gatheredCount m (length old) k → new ≡ gatheredTable m old k → Grown m old new k r
+gather-grows (Source x) old new k r l count table = rw (count, table, lt-leb (length old) k l) (grown old k x l)
+gather-grows Nothing old new k r l count table = rw (count, table) (kept old k)
+
+measured-snoc : (x : ℕ) (es : List Entry) (e : Entry) → measured x (es ++ (e ∷ [])) ≡ (measures x e || measured x es)
+unfolding measured
+measured-snoc x [] e = refl
+measured-snoc x (f ∷ es) e = rw (measured-snoc x es e) (swap (measures x f) (measures x e) (measured x es))
+  where
+    swap : (p q r : Bool) → (p || (q || r)) ≡ (q || (p || r))
+    swap true true r = refl
+    swap true false r = refl
+    swap false q r = refl
+
+-- a table of the sources that the blocks es measure, grown by the block behind them
+pub grown-measured : (es : List Entry) (e : Entry) (own : BlockRead) (old new : List ℕ) (k r : ℕ) → own ≡ readAlone e →
+    Grown (measuresOf own) old new k r → ((x : ℕ) → member x (take k old) ≡ measured x es) →
+    (x : ℕ) → member x (take r new) ≡ measured x (es ++ (e ∷ []))
+grown-measured es e own old new k r is grow same x =
+    grow .same x ∙ ap₂ (λ (here before : Bool). here || before) (ap (λ (a : BlockRead). names (measuresOf a) x) is) (same x)
+    ∙ sym (measured-snoc x es e)
+
+-- the cases of gathering: a full table, a block that measures a source, one that measures nothing
+abbrev Gathered : Measures → List ℕ → ℕ → ℕ → List ℕ → Type 0
+Gathered m old k r new = (r ≡ gatheredCount m (length old) k) × (new ≡ gatheredTable m old k)
+
+pub gather-full : (m : Measures) (old : List ℕ) (k : ℕ) → length old ≤ k → Gathered m old k k old
+gather-full (Source x) old k h = let t = le-leb (length old) k h in (rw t, rw t)
+gather-full Nothing old k h = (refl, refl)
+
+pub gather-source : (m : Measures) (old : List ℕ) (k x : ℕ) → k < length old → m ≡ Source x → Gathered m old k (k + 1) (set old k x)
+gather-source m old k x h e = let t = lt-leb (length old) k h in (rw (e, t), rw (e, t))
+
+pub gather-nothing : (m : Measures) (old : List ℕ) (k : ℕ) → m ≡ Nothing → Gathered m old k k old
+gather-nothing m old k e = (rw e, rw e)
 
 -- lists that are the same from one place on are the same from any later place on
 pub later : (n m : ℕ) (l l′ : List ℕ) → n ≤ m → drop n l ≡ drop n l′ → drop m l ≡ drop m l′

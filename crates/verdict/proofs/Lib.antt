@@ -1,0 +1,5 @@
+pub mod Members
+pub mod Searching
+pub mod OwnBytes
+pub mod Verdict
+pub mod Typed

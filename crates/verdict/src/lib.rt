@@ -1,0 +1,122 @@
+// A block's verdict as a number: from its own bytes, and, where it waits for a measurement, from a table of the measured
+// sources.
+use block::Measures;
+ghost use mathlib.Core.Path.{_≡_};
+ghost use mathlib.Core.Bool.{cond};
+ghost use mathlib.Core.List.{[]};
+ghost use lib.Dec.{leb};
+ghost use lib.ListN.{length};
+ghost use Rattle.sorting.specs.Order.{Sorted};
+ghost use Rattle.block.specs.Reading.{readBytes, measuresOf};
+ghost use Rattle.packet.specs.Blocks.{readAmong};
+ghost use Rattle.verdict.specs.Verdict.{verdictOf};
+ghost use Rattle.verdict.specs.Sources.{member, gatheredCount, gatheredTable, typedBy};
+ghost use Rattle.verdict.specs.Alone.{sizeVerdict, summaryVerdict};
+
+// The verdicts besides the reasons to drop a block.
+pub const TYPED: u8 = 0;
+
+pub const UNKNOWN: u8 = 255;
+
+// The verdict of a block of these bytes in a packet that measures nothing: what `block::read_bytes` comes to, without
+// its struct. Fewer than four bytes are no block, and unknown.
+pub fn alone(bytes: &[u8]) -> u8
+    ensures { λ r. ⌜ r ≡ verdictOf (readAmong [] (readBytes (now (bytes .entry)))) ⌝ }
+{
+    if bytes.len() < 4 {
+        return UNKNOWN;
+    }
+    let kind = bytes[0];
+    match kind {
+        14 => size_verdict(bytes.len(), 4 + block::MEASUREMENT_BYTES),
+        17 => summary_verdict(bytes, 4 + block::LOSS_BYTES, bytes[1] / 64),
+        18 => summary_verdict(bytes, 4 + block::DISCARD_BYTES, bytes[1] / 64),
+        240 => size_verdict(bytes.len(), 4 + block::EFFECTIVE_BYTES),
+        241 => size_verdict(bytes.len(), 4 + block::STREAMS_BYTES),
+        _ => UNKNOWN,
+    }
+}
+
+fn size_verdict(size: usize, wanted: usize) -> u8
+    ensures { λ r. ⌜ r ≡ sizeVerdict size wanted ⌝ }
+{
+    if size != wanted {
+        return block::BAD_SIZE;
+    }
+    TYPED
+}
+
+// The verdict of a 17 or 18, of which a good one waits for a measurement.
+fn summary_verdict(bytes: &[u8], wanted: usize, flag: u8) -> u8
+    ensures { λ r. ⌜ r ≡ summaryVerdict (now (bytes .entry)) wanted flag ⌝ }
+{
+    if bytes.len() != wanted {
+        return block::BAD_SIZE;
+    }
+    if !block::flag_good(flag) {
+        return block::BAD_FLAG;
+    }
+    if !block::rates_good(wire::u16_at(bytes, 8), wire::u16_at(bytes, 10)) {
+        return block::BAD_RATE;
+    }
+    block::UNMEASURED
+}
+
+// The source that a block of these bytes measures, if any, put behind the table's first k: answers how many these are
+// then. A table of no more than k stays as it is.
+pub fn gather(bytes: &[u8], table: &mut [u32], k: usize) -> usize
+    ensures count { λ r. ⌜ r ≡ gatheredCount (measuresOf (readBytes (now (bytes .entry)))) (length (now (table .entry))) k ⌝ }
+    ensures table { λ r. ⌜ now (table .exit) ≡ gatheredTable (measuresOf (readBytes (now (bytes .entry)))) (now (table .entry)) k ⌝ }
+{
+    if table.len() <= k {
+        return k;
+    }
+    match block::measured_by(bytes) {
+        Measures::Source(source) => {
+            table[k] = source;
+            k + 1
+        }
+        Measures::Nothing => k,
+    }
+}
+
+// Whether a block of these bytes is typed in a packet whose measured sources are those of the table. With a table that is
+// not sorted the answer is free.
+pub fn is_typed(bytes: &[u8], table: &[u32]) -> bool
+    ensures { λ r. ⌜ (Sorted (now (table .entry)) → r ≡ typedBy (now (table .entry)) (readBytes (now (bytes .entry)))) ⌝ }
+{
+    let verdict = alone(bytes);
+    if verdict == TYPED {
+        return true;
+    }
+    if verdict != block::UNMEASURED {
+        return false;
+    }
+    has(table, wire::u32_at(bytes, 4))
+}
+
+// Whether x stands in a sorted table: a search by halves, in which no branch depends on what the table holds. In a table
+// that is not sorted the answer is free.
+pub fn has(table: &[u32], x: u32) -> bool
+    ensures { λ r. ⌜ (Sorted (now (table .entry)) → r ≡ member x (now (table .entry))) ⌝ }
+{
+    if table.len() == 0 {
+        return false;
+    }
+    let mut low = 0;
+    let mut size = table.len();
+    while 1 < size {
+        let half = size / 2;
+        low += if_at_most(table[low + half], x, half);
+        size -= half;
+    }
+    table[low] == x
+}
+
+// n where y is at most x, and 0 where not, without a branch: the carry of x + 2 ^ 32 - y counts n or nothing.
+fn if_at_most(y: u32, x: u32, n: usize) -> usize
+    ensures { λ r. ⌜ r ≡ cond (leb y x) n 0 ⌝ }
+{
+    let carry = (x as u64 + 4_294_967_296 - y as u64) / 4_294_967_296;
+    n * carry as usize
+}
