@@ -4,7 +4,7 @@ use Prim.Native.Nat.{ℕ, _+_, _*_, _<_, _≤_}
 use mathlib.Core.Path.{_≡_, sym, ap, _∙_}
 use mathlib.Core.List.{List, [], _++_}
 use native.Mathlib.Omega.{arith}
-use lib.ListN.{length, take, drop, length-append, length-drop}
+use lib.ListN.{length, take, drop}
 use borrow.Author.Tests.{le-leb, lt-leb}
 use lib.Seq.{take-at, drop-at, drop-drop, length-take-le}
 use Rattle.refusal.specs.Answer.{after}
@@ -18,7 +18,7 @@ use Rattle.packet.specs.Steps.{blocksOf}
 use Rattle.frame.specs.declared.Extent.the-variants.{Whole}
 use Rattle.frame.proofs.Locating.{Here}
 use Rattle.packet.proofs.Chosen.{blocks-are, blocks-whole}
-use Rattle.verdict.proofs.Members.{permuted-member, later}
+use Rattle.verdict.proofs.Members.{later, front-long, sorted-front}
 use Rattle.survey.specs.Survey.{listing, listOf, listAnswer}
 use Rattle.survey.specs.Packed.{packing, spreadOf, Room, Marked, Settleable}
 use Rattle.survey.proofs.Marking.{packing-length}
@@ -65,10 +65,7 @@ module _ (s old marked : List ℕ) (count k : ℕ) (room : Room s old count) (lo
     size = p .long ∙ length-take-le k marked marked-fits
 
     all : length (part ++ drop k marked) ≡ length old
-    all = let fits = marked-fits in rw (length-append part (drop k marked), length-drop k marked) (omega (arith, size))
-
-    front : take k (part ++ drop k marked) ≡ part
-    front = take-at part (drop k marked) k size
+    all = front-long marked part k marked-fits p ∙ long
 
     rest : (n : ℕ) → k ≤ n → drop n (part ++ drop k marked) ≡ drop n marked
     rest n h = later k n (part ++ drop k marked) marked h (drop-at part (drop k marked) k size)
@@ -86,7 +83,7 @@ module _ (s old marked : List ℕ) (count k : ℕ) (room : Room s old count) (lo
         record {
           room = record { whole-blocks = room .whole-blocks; short = room .short; counted = room .counted; fits = omega arith };
           few = few;
-          table = record { fits = omega arith; sorted = rw front sorted; same = λ x. rw front (permuted-member (take k marked) part p x ∙ m .same x) };
+          table = sorted-front s marked part k marked-fits sorted p (m .same);
           packed = rest count few ∙ m .packed ∙ ap (λ (l : List ℕ). packing [] (blocksOf s) ++ l) (sym past-sorted);
         }
 

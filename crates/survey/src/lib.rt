@@ -1,5 +1,5 @@
 // All blocks of a packet at once: for each its place and its verdict. D4 asks whether a source is measured anywhere
-// in the packet, so the sources of the measurement blocks are sorted into a table and looked up by halves. The lent
+// in the packet, so the sources of the measurement blocks are sorted into a table and looked up there. The lent
 // list is the only room: while it is filled, its first half holds the table, and its second half one number for each
 // block, place and verdict packed.
 use frame::Extent;

@@ -1,5 +1,5 @@
 -- Which numbers stand in a list: in a list taken apart, by positions, in a list with the same numbers in another
--- order; and a table that grows by the source of one block. Assumes nothing.
+-- order; a table that grows by the source of one block; and one that is sorted. Assumes nothing.
 use Prim.Native.Nat.{ℕ, zero, suc, _+_, _-_, _<_, _≤_}
 use mathlib.Core.Path.{_≡_, refl, sym, ap, ap₂, _∙_}
 use mathlib.Core.Bool.{Bool, true, false, cond, _||_, or-assoc}
@@ -8,16 +8,17 @@ use native.Mathlib.Omega.{arith}
 use native.Mathlib.Numerals.{add-one}
 use borrow.Author.Tests.{eq-eqb, ne-eqb, le-leb, lt-leb}
 use lib.Dec.{eqb}
-use lib.ListN.{length, getD, take, drop, set, length-set}
-use lib.Seq.{take-suc-set, drop-set-lt, drop-drop}
-use Rattle.sorting.specs.Order.{one, times, Permuted}
+use lib.ListN.{length, getD, take, drop, set, length-set, length-append, length-drop}
+use lib.Seq.{take-at, take-suc-set, drop-set-lt, drop-drop, length-take-le}
+use Rattle.sorting.specs.Order.{one, times, Sorted, Permuted}
 use Rattle.block.specs.Reading.{measuresOf}
 use Rattle.block.specs.declared.BlockRead.{BlockRead}
 use Rattle.block.specs.declared.Measures.{Measures}
 use Rattle.block.specs.declared.Measures.the-variants.{Source, Nothing}
 use Rattle.frame.specs.Frames.{Entry}
 use Rattle.packet.specs.Blocks.{readAlone, names, measures, measured}
-use Rattle.verdict.specs.Sources.{member, gatheredCount, gatheredTable, Grown}
+use Rattle.packet.specs.Steps.{blocksOf}
+use Rattle.verdict.specs.Sources.{member, gatheredCount, gatheredTable, Grown, Table}
 
 member-append : (x : ℕ) (s t : List ℕ) → member x (s ++ t) ≡ (member x s || member x t)
 unfolding member
@@ -121,3 +122,19 @@ pub later : (n m : ℕ) (l l′ : List ℕ) → n ≤ m → drop n l ≡ drop n 
 later n m l l′ h e =
     let sum : n + (m - n) ≡ m = omega arith in
     ap (λ (k : ℕ). drop k l) (sym sum) ∙ sym (drop-drop (m - n) n l) ∙ ap (drop (m - n)) e ∙ drop-drop (m - n) n l′ ∙ ap (λ (k : ℕ). drop k l′) sum
+
+-- the first k numbers sorted in their place: the same length, and the packet's table where they are its sources
+pub front-long : (table part : List ℕ) (k : ℕ) → k ≤ length table → Permuted (take k table) part → length (part ++ drop k table) ≡ length table
+front-long table part k fits p =
+    let size : length part ≡ k = p .long ∙ length-take-le k table fits in
+    rw (length-append part (drop k table), length-drop k table) (omega arith)
+
+pub sorted-front : (s table part : List ℕ) (k : ℕ) → k ≤ length table → Sorted part → Permuted (take k table) part →
+    ((x : ℕ) → member x (take k table) ≡ measured x (blocksOf s)) → Table s (part ++ drop k table) k
+sorted-front s table part k fits sorted p same =
+    let front : take k (part ++ drop k table) ≡ part = take-at part (drop k table) k (p .long ∙ length-take-le k table fits) in
+    record {
+      fits = rw (front-long table part k fits p) fits;
+      sorted = rw front sorted;
+      same = λ x. rw front (permuted-member (take k table) part p x ∙ same x);
+    }

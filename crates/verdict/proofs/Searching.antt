@@ -1,71 +1,137 @@
--- Search by halves: the invariant, one turn and the end. It stays inside any table, and in a sorted one it finds. Assumes
+-- A search: its start, one turn by quarters, one number less, and the end. It stays inside any table, and in a sorted one it finds. Assumes
 -- nothing.
 use Prim.Native.Nat.{ℕ, _+_, _-_, _*_, _/_, _<_, _≤_}
 use mathlib.Core.Path.{_≡_, sym, ap, _∙_}
 use mathlib.Core.Bool.{Bool, true, false, cond}
 use mathlib.Core.List.{List}
 use native.Mathlib.Omega.{arith}
-use native.Mathlib.Nat.{mul-one, mul-zero}
+use native.Mathlib.Nat.{mul-comm, mul-le-mul}
 use native.Mathlib.Decide.{decLt, decLe, ℕ-discrete}
 use borrow.Author.Tests.{eq-eqb, ne-eqb, le-leb, lt-leb}
 use lib.Dec.{eqb, leb}
 use lib.ListN.{length, getD}
 use Rattle.sorting.specs.Order.{Sorted}
+use Rattle.verdict.specs.Search.{Among, Search}
 use Rattle.verdict.specs.Sources.{member}
 use Rattle.verdict.proofs.Members.{nowhere, somewhere}
-
--- x, if it stands anywhere in a sorted table, stands among the size numbers from low on
-pub record Halves (table : List ℕ) (x low size : ℕ) : Type 0 where
-  pub below : 0 < low → getD table low 0 ≤ x
-  pub above : (i : ℕ) → low + size ≤ i → i < length table → x < getD table i 0
-
-pub record Search (table : List ℕ) (x low size : ℕ) : Type 0 where
-  pub some : 0 < size
-  pub within : low + size ≤ length table
-  pub halves : Sorted table → Halves table x low size
 
 pub search-all : (table : List ℕ) (x : ℕ) → 0 < length table → Search table x 0 (length table)
 search-all table x h =
     record {
       some = h;
       within = omega arith;
-      halves = λ sorted. record { below = λ l. absurd (omega arith); above = λ i g l. absurd (omega arith) };
+      among = λ sorted. record { below = λ l. absurd (omega arith); above = λ i g l. absurd (omega arith) };
     }
 
-at-most : (t : Bool) (n : ℕ) → cond t n 0 ≤ n
-at-most true n = omega arith
-at-most false n = omega arith
-
--- one turn goes on in the upper half or in the lower
-pub search-on : (table : List ℕ) (x low size step : ℕ) → Search table x low size → 1 < size →
-    step ≡ cond (leb (getD table (low + size / 2) 0) x) (size / 2) 0 → Search table x (low + step) (size - size / 2)
-search-on table x low size step h more is = go (decLe (getD table (low + size / 2) 0) x)
+-- what a comparison counts
+pub counts : (y x : ℕ) → cond (leb y x) 1 0 ≤ 1
+counts y x = go (leb y x)
   where
-    go : Dec (getD table (low + size / 2) 0 ≤ x) → Search table x (low + step) (size - size / 2)
-    go (yes le) =
-        let up : step ≡ size / 2 = is ∙ rw (le-leb (getD table (low + size / 2) 0) x le) in
-        let within = h .within in
-        rw up (record {
-          some = omega arith;
-          within = omega arith;
-          halves = λ sorted. record { below = λ l. le; above = λ i g l. h .halves sorted .above i (omega arith) l };
-        })
-    go (no gt) =
-        let down : step ≡ 0 = is ∙ rw (lt-leb (getD table (low + size / 2) 0) x (omega arith)) in
-        let same : low + 0 ≡ low = omega arith in
-        let within = h .within in
-        rw (down, same) (record {
-          some = omega arith;
-          within = omega arith;
-          halves = λ sorted. record {
-            below = h .halves sorted .below;
-            above = λ i g l. let order = sorted (low + size / 2) i (omega arith) l in omega arith;
-          };
-        })
+    go : (t : Bool) → cond t 1 0 ≤ 1
+    go true = omega arith
+    go false = omega arith
 
-pub search-step : (table : List ℕ) (x low size step : ℕ) →
-    step ≡ cond (leb (getD table (low + size / 2) 0) x) (size / 2) 0 → step ≤ size / 2
-search-step table x low size step is = rw is (at-most (leb (getD table (low + size / 2) 0) x) (size / 2))
+pub carried : (y x : ℕ) → y < 4294967296 → x < 4294967296 → (x + 4294967296 - y) / 4294967296 ≡ cond (leb y x) 1 0
+carried y x p q = go (decLe y x)
+  where
+    go : Dec (y ≤ x) → (x + 4294967296 - y) / 4294967296 ≡ cond (leb y x) 1 0
+    go (yes le) = rw (le-leb y x le) (omega arith)
+    go (no gt) = rw (lt-leb y x (omega arith)) (omega arith)
+
+-- the search goes on at a number that is at most x, or where it was, with so many numbers left that x does not stand behind them
+narrowed : (table : List ℕ) (x low size step left : ℕ) → Search table x low size → 0 < left → step + left ≤ size →
+    (Sorted table → (0 < step → getD table (low + step) 0 ≤ x) × ((i : ℕ) → low + step + left ≤ i → i < low + size → i < length table → x < getD table i 0)) →
+    Search table x (low + step) left
+narrowed table x low size step left h some fits on =
+    let within = h .within in
+    record {
+      some = some;
+      within = omega arith;
+      among = λ sorted. record { below = λ l. first sorted l (ℕ-discrete step 0); above = λ i g l. rest sorted i g l (decLt i (low + size)) };
+    }
+  where
+    first : Sorted table → 0 < low + step → Dec (step ≡ 0) → getD table (low + step) 0 ≤ x
+    first sorted l (yes none) = let same : low + step ≡ low = omega arith in rw same (h .among sorted .below (omega arith))
+    first sorted l (no more) = on sorted .0 (omega arith)
+
+    rest : Sorted table → (i : ℕ) → low + step + left ≤ i → i < length table → Dec (i < low + size) → x < getD table i 0
+    rest sorted i g l (yes inside) = on sorted .1 i g inside l
+    rest sorted i g l (no past) = h .among sorted .above i (omega arith) l
+
+-- one number less
+pub search-less : (table : List ℕ) (x low size count : ℕ) → Search table x low size → 1 < size → count ≡ cond (leb (getD table (low + 1) 0) x) 1 0 →
+    Search table x (low + count) (size - 1)
+search-less table x low size count h more is = go (decLe (getD table (low + 1) 0) x)
+  where
+    go : Dec (getD table (low + 1) 0 ≤ x) → Search table x (low + count) (size - 1)
+    go (yes le) =
+        let one : count ≡ 1 = is ∙ rw (le-leb (getD table (low + 1) 0) x le) in
+        rw one (narrowed table x low size 1 (size - 1) h (omega arith) (omega arith) (λ sorted. (λ l. le, λ i g inside l. absurd (omega arith))))
+    go (no gt) =
+        let none : count ≡ 0 = is ∙ rw (lt-leb (getD table (low + 1) 0) x (omega arith)) in
+        rw none (narrowed table x low size 0 (size - 1) h (omega arith) (omega arith)
+        (λ sorted. (λ l. absurd (omega arith), λ i g inside l. let order = sorted (low + 1) i (omega arith) l in omega arith)))
+
+-- one quarter, by three numbers of the table
+module _ (table : List ℕ) (x low size fourth first second third : ℕ) (h : Search table x low size) (more : 3 < size) (q : fourth ≡ size / 4)
+    (a : first ≡ cond (leb (getD table (low + fourth) 0) x) 1 0) (b : second ≡ cond (leb (getD table (low + 2 * fourth) 0) x) 1 0) (c : third ≡ cond (leb (getD table (low + 3 * fourth) 0) x) 1 0) where
+  pub quarter-few : first + second + third ≤ 3
+  quarter-few =
+      let one = rw (← a) at (counts (getD table (low + fourth) 0) x) in
+      let two = rw (← b) at (counts (getD table (low + 2 * fourth) 0) x) in
+      let three = rw (← c) at (counts (getD table (low + 3 * fourth) 0) x) in
+      omega arith
+
+  pub quarter-fits : fourth * (first + second + third) ≤ 3 * fourth
+  quarter-fits = rw (mul-comm 3 fourth) (mul-le-mul {n₁ = fourth} {n₂ = fourth} (omega arith) quarter-few)
+
+  on : Sorted table → (0 < fourth * (first + second + third) → getD table (low + fourth * (first + second + third)) 0 ≤ x)
+      × ((i : ℕ) → low + fourth * (first + second + third) + (size - 3 * fourth) ≤ i → i < low + size → i < length table → x < getD table i 0)
+  on sorted = go (decLe (getD table (low + fourth) 0) x) (decLe (getD table (low + 2 * fourth) 0) x) (decLe (getD table (low + 3 * fourth) 0) x)
+    where
+      within : low + size ≤ length table
+      within = h .within
+
+      up : getD table (low + fourth) 0 ≤ getD table (low + 2 * fourth) 0
+      up = let w = within in sorted (low + fourth) (low + 2 * fourth) (omega arith) (omega arith)
+
+      higher : getD table (low + 2 * fourth) 0 ≤ getD table (low + 3 * fourth) 0
+      higher = let w = within in sorted (low + 2 * fourth) (low + 3 * fourth) (omega arith) (omega arith)
+
+      yes-one : (y n : ℕ) → n ≡ cond (leb y x) 1 0 → y ≤ x → n ≡ 1
+      yes-one y n e l = e ∙ rw (le-leb y x l)
+
+      no-one : (y n : ℕ) → n ≡ cond (leb y x) 1 0 → (y ≤ x → ⊥) → n ≡ 0
+      no-one y n e l = e ∙ rw (lt-leb y x (omega arith))
+
+      at : (n : ℕ) → first + second + third ≡ n → fourth * (first + second + third) ≡ n * fourth
+      at n e = rw (e, mul-comm fourth n)
+
+      go : Dec (getD table (low + fourth) 0 ≤ x) → Dec (getD table (low + 2 * fourth) 0 ≤ x) → Dec (getD table (low + 3 * fourth) 0 ≤ x) →
+          (0 < fourth * (first + second + third) → getD table (low + fourth * (first + second + third)) 0 ≤ x)
+          × ((i : ℕ) → low + fourth * (first + second + third) + (size - 3 * fourth) ≤ i → i < low + size → i < length table → x < getD table i 0)
+      go (yes p) (yes r) (yes s) =
+          let n = at 3 (let u = yes-one _ first a p in let v = yes-one _ second b r in let w = yes-one _ third c s in omega arith) in
+          rw n (λ l. s, λ i g inside l. absurd (omega arith))
+      go (yes p) (yes r) (no s) =
+          let n = at 2 (let u = yes-one _ first a p in let v = yes-one _ second b r in let w = no-one _ third c s in omega arith) in
+          rw n (λ l. r, λ i g inside l. let order = sorted (low + 3 * fourth) i (omega arith) l in omega arith)
+      go (yes p) (no r) (yes s) = absurd (let k = higher in omega arith)
+      go (yes p) (no r) (no s) =
+          let n = at 1 (let u = yes-one _ first a p in let v = no-one _ second b r in let w = no-one _ third c s in omega arith) in
+          let one : 1 * fourth ≡ fourth = omega arith in
+          rw (n, one) (λ l. p, λ i g inside l. let order = sorted (low + 2 * fourth) i (omega arith) l in omega arith)
+      go (no p) (yes r) d = absurd (let k = up in omega arith)
+      go (no p) (no r) (yes s) = absurd (let k = higher in omega arith)
+      go (no p) (no r) (no s) =
+          let n = at 0 (let u = no-one _ first a p in let v = no-one _ second b r in let w = no-one _ third c s in omega arith) in
+          let none : 0 * fourth ≡ 0 = omega arith in
+          rw (n, none) (λ l. absurd (omega arith), λ i g inside l. let order = sorted (low + fourth) i (omega arith) l in omega arith)
+
+  pub search-quarter : Search table x (low + fourth * (first + second + third)) (size - 3 * fourth)
+  search-quarter =
+      let fits = quarter-fits in
+      narrowed table x low size (fourth * (first + second + third)) (size - 3 * fourth) h (omega arith) (omega arith) on
 
 -- one number is left
 pub search-end : (table : List ℕ) (x low size : ℕ) → Search table x low size → size ≤ 1 → Sorted table →
@@ -78,10 +144,10 @@ search-end table x low size h one sorted = go (ℕ-discrete (getD table low 0) x
     apart : (getD table low 0 ≡ x → ⊥) → (i : ℕ) → i < length table → getD table i 0 ≡ x → Dec (i < low) → Dec (i ≡ low) → ⊥
     apart ne i l e (yes before) d =
         let order = sorted i low (omega arith) inside in
-        let below = h .halves sorted .below (omega arith) in
+        let below = h .among sorted .below (omega arith) in
         ne (omega arith)
     apart ne i l e (no after) (yes here) = ne (ap (λ (n : ℕ). getD table n 0) (sym here) ∙ e)
-    apart ne i l e (no after) (no other) = let above = h .halves sorted .above i (omega arith) l in omega arith
+    apart ne i l e (no after) (no other) = let above = h .among sorted .above i (omega arith) l in omega arith
 
     go : Dec (getD table low 0 ≡ x) → eqb (getD table low 0) x ≡ member x table
     go (yes e) = eq-eqb (getD table low 0) x e ∙ sym (somewhere table x low inside e)
@@ -90,19 +156,3 @@ search-end table x low size h one sorted = go (ℕ-discrete (getD table low 0) x
 -- an empty table
 pub none-held : (table : List ℕ) (x : ℕ) → length table ≡ 0 → false ≡ member x table
 none-held table x e = sym (nowhere table x (λ i l same. omega arith))
-
-pub at-most-once : (n times : ℕ) → times ≤ 1 → n * times ≤ n
-at-most-once n times h = go (ℕ-discrete times 0)
-  where
-    go : Dec (times ≡ 0) → n * times ≤ n
-    go (yes none) = rw (none, mul-zero) (omega arith)
-    go (no some) = let one : times ≡ 1 = omega arith in rw (one, mul-one) (omega arith)
-
--- the carry of a difference is a comparison
-module _ (y x n : ℕ) (y-fits : y < 4294967296) (x-fits : x < 4294967296) where
-  pub carried : n * ((x + 4294967296 - y) / 4294967296) ≡ cond (leb y x) n 0
-  carried = go (decLe y x)
-    where
-      go : Dec (y ≤ x) → n * ((x + 4294967296 - y) / 4294967296) ≡ cond (leb y x) n 0
-      go (yes le) = let one : (x + 4294967296 - y) / 4294967296 ≡ 1 = omega arith in rw (one, le-leb y x le, mul-one)
-      go (no gt) = let none : (x + 4294967296 - y) / 4294967296 ≡ 0 = omega arith in rw (none, lt-leb y x (omega arith), mul-zero)

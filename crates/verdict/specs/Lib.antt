@@ -1,3 +1,4 @@
 pub mod Verdict
 pub mod Sources
 pub mod Alone
+pub mod Search

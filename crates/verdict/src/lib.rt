@@ -5,11 +5,13 @@ ghost use mathlib.Core.Path.{_≡_};
 ghost use mathlib.Core.Bool.{cond};
 ghost use mathlib.Core.List.{[]};
 ghost use lib.Dec.{leb};
+ghost use Prim.Native.Nat.{_<_, _≤_};
 ghost use lib.ListN.{length};
 ghost use Rattle.sorting.specs.Order.{Sorted};
 ghost use Rattle.block.specs.Reading.{readBytes, measuresOf};
 ghost use Rattle.packet.specs.Blocks.{readAmong};
 ghost use Rattle.verdict.specs.Verdict.{verdictOf};
+ghost use Rattle.verdict.specs.Search.{Search};
 ghost use Rattle.verdict.specs.Sources.{member, gatheredCount, gatheredTable, typedBy};
 ghost use Rattle.verdict.specs.Alone.{sizeVerdict, summaryVerdict};
 
@@ -95,28 +97,51 @@ pub fn is_typed(bytes: &[u8], table: &[u32]) -> bool
     has(table, wire::u32_at(bytes, 4))
 }
 
-// Whether x stands in a sorted table: a search by halves, in which no branch depends on what the table holds. In a table
-// that is not sorted the answer is free.
+// Whether x stands in a sorted table. In a table that is not sorted the answer is free.
 pub fn has(table: &[u32], x: u32) -> bool
     ensures { λ r. ⌜ (Sorted (now (table .entry)) → r ≡ member x (now (table .entry))) ⌝ }
 {
     if table.len() == 0 {
         return false;
     }
-    let mut low = 0;
-    let mut size = table.len();
+    let part = quarter(table, x);
+    let mut low = part.low;
+    let mut size = part.size;
     while 1 < size {
-        let half = size / 2;
-        low += if_at_most(table[low + half], x, half);
-        size -= half;
+        low += at_most(table[low + 1], x);
+        size -= 1;
     }
     table[low] == x
 }
 
-// n where y is at most x, and 0 where not, without a branch: the carry of x + 2 ^ 32 - y counts n or nothing.
-fn if_at_most(y: u32, x: u32, n: usize) -> usize
-    ensures { λ r. ⌜ r ≡ cond (leb y x) n 0 ⌝ }
+// Where a search goes on: among so many numbers of the table, from low on.
+struct Part {
+    low: usize,
+    size: usize,
+}
+
+// A search for x down to three numbers or fewer, by quarters: the three numbers of a turn are read at once, and no branch depends
+// on what the table holds.
+fn quarter(table: &[u32], x: u32) -> Part
+    requires { ⌜ 0 < length (now table) ⌝ }
+    ensures { λ r. ⌜ Search (now (table .entry)) x (r .low) (r .size) × (r .size ≤ 3) ⌝ }
 {
-    let carry = (x as u64 + 4_294_967_296 - y as u64) / 4_294_967_296;
-    n * carry as usize
+    let mut low = 0;
+    let mut size = table.len();
+    while 3 < size {
+        let fourth = size / 4;
+        let first = at_most(table[low + fourth], x);
+        let second = at_most(table[low + 2 * fourth], x);
+        let third = at_most(table[low + 3 * fourth], x);
+        low += fourth * (first + second + third);
+        size -= 3 * fourth;
+    }
+    Part { low, size }
+}
+
+// 1 where y is at most x, and 0 where not, as the carry of x + 2 ^ 32 - y: a test would be compiled to a branch.
+fn at_most(y: u32, x: u32) -> usize
+    ensures { λ r. ⌜ r ≡ cond (leb y x) 1 0 ⌝ }
+{
+    ((x as u64 + 4_294_967_296 - y as u64) / 4_294_967_296) as usize
 }

@@ -1,6 +1,10 @@
--- `verdict::has` meets its contract. The loop's invariant is `Search`. Assumes nothing.
+-- `verdict::has` meets its contract: by quarters, then one number less a turn. Assumes nothing.
+use Prim.Native.Nat.{_+_, _≤_}
 use native.Mathlib.Omega.{arith}
-use Rattle.verdict.proofs.Searching.{Search, search-all, search-on, search-step, search-end, none-held}
+use lib.ListN.{getD}
+use Rattle.verdict.specs.Search.{Search}
+use Rattle.verdict.proofs.Searching.{counts, search-less, search-end, none-held}
+use borrow.Author.Needs.{needs}
 use Rattle.verdict.proofs.has.Statement.{statement}
 use Rattle.verdict.proofs.has.Tie as tie
 
@@ -13,24 +17,31 @@ abbrev μ-loop : tie.MeasureT-loop
 returns : tie.Need-returns Inv-loop μ-loop
 returns c sorted = none-held _ _ (omega arith)
 
+quarter-requires : tie.Need-quarter-requires Inv-loop μ-loop
+quarter-requires c κs = omega arith
+
 loop-holds : tie.Need-loop-holds Inv-loop μ-loop
-loop-holds c = search-all _ _ (omega arith)
+loop-holds c = c .quarter .ensures .0
 
-add-if-at-most : tie.Need-add-if-at-most Inv-loop μ-loop
-add-if-at-most c = omega arith
+add-at-most : tie.Need-add-at-most Inv-loop μ-loop
+add-at-most c = omega arith
 
-mul-if-at-most : tie.Need-mul-if-at-most Inv-loop μ-loop
-mul-if-at-most c = omega arith
+mul-at-most : tie.Need-mul-at-most Inv-loop μ-loop
+mul-at-most c = omega arith
 
-shared-slice-read-if-at-most : tie.Need-shared-slice-read-if-at-most Inv-loop μ-loop
-shared-slice-read-if-at-most c = omega arith
+shared-slice-read-at-most : tie.Need-shared-slice-read-at-most Inv-loop μ-loop
+shared-slice-read-at-most c = omega arith
 
-if-at-most-requires : tie.Need-if-at-most-requires Inv-loop μ-loop
-if-at-most-requires c κs = omega arith
+at-most-requires : tie.Need-at-most-requires Inv-loop μ-loop
+at-most-requires c κs = search needs
+
+few : (c : tie.After-at-most Inv-loop μ-loop) → c .at-most .result ≤ 1
+few c = let a = c .before .before .before .before .before .before .before .args in rw (c .at-most .ensures) (counts (getD (a .table .now) (c .before .before .before .loop .low + 1) 0) (a .x))
 
 add-low : tie.Need-add-low Inv-loop μ-loop
 add-low c =
-    omega (arith, search-step (c .before .before .before .before .before .before .args .table .now) (c .before .before .before .before .before .before .args .x) (c .before .before .before .loop .low) (c .before .before .before .loop .size) _ (c .if-at-most .ensures))
+    let a = c .before .before .before .loop in
+    omega (arith, a .inv .within, few c)
 
 sub-size : tie.Need-sub-size Inv-loop μ-loop
 sub-size c = omega arith
@@ -39,7 +50,7 @@ loop-less : tie.Need-loop-less Inv-loop μ-loop
 loop-less c = omega arith
 
 loop-again : tie.Need-loop-again Inv-loop μ-loop
-loop-again c = search-on _ _ _ _ _ (c .before .before .before .loop .inv) (omega arith) (c .if-at-most .ensures)
+loop-again c = search-less _ _ _ _ _ (c .before .before .before .loop .inv) (omega arith) (c .at-most .ensures)
 
 mul-result : tie.Need-mul-result Inv-loop μ-loop
 mul-result c = omega arith
@@ -48,7 +59,7 @@ shared-slice-read-result : tie.Need-shared-slice-read-result Inv-loop μ-loop
 shared-slice-read-result c = omega arith
 
 returns-2 : tie.Need-returns-2 Inv-loop μ-loop
-returns-2 c = search-end _ _ (c .before .before .loop .low) (c .before .before .loop .size) (c .before .before .loop .inv) (omega arith)
+returns-2 c sorted = search-end _ _ (c .before .before .loop .low) (c .before .before .loop .size) (c .before .before .loop .inv) (omega arith) sorted
 
 pub has-spec : {M : Type 1} → statement M
 has-spec =
@@ -57,11 +68,12 @@ has-spec =
     Inv-loop
     μ-loop
     returns
+    quarter-requires
     loop-holds
-    add-if-at-most
-    mul-if-at-most
-    shared-slice-read-if-at-most
-    if-at-most-requires
+    add-at-most
+    mul-at-most
+    shared-slice-read-at-most
+    at-most-requires
     add-low
     sub-size
     loop-less
