@@ -63,6 +63,30 @@ pub fn locate(s: &[u8], extent: Extent, index: usize) -> Located
     }
 }
 
+// The first eight bytes of a packet, judged against the slice's length.
+pub fn read_header(s: &[u8], extent: Extent) -> Header
+    ensures { λ r. ⌜ r ≡ headerOf extent (now (s .entry)) ⌝ }
+{
+    if s.len() < FIRST_BLOCK {
+        return Header::Refused(refusal::PACKET_SHORT);
+    }
+    let first = s[0];
+    if first / 64 != 2 {
+        return Header::Refused(refusal::VERSION);
+    }
+    if s[1] != 207 {
+        return Header::Refused(refusal::PACKET_TYPE);
+    }
+    let size = 4 * (wire::u16_at(s, 2) as usize + 1);
+    if !size_fits(extent, size, s.len()) {
+        return Header::Refused(refusal::PACKET_LENGTH);
+    }
+    if first / 32 % 2 != 0 {
+        return Header::Refused(refusal::PADDING);
+    }
+    Header::Sender(wire::u32_at(s, 4), size)
+}
+
 // All blocks from one offset to another, or to the end of s where that is nearer, in one pass: how many, and
 // where number index stands.
 pub fn walk(s: &[u8], from: usize, to: usize, index: usize) -> Walked
@@ -100,30 +124,6 @@ pub fn block_at(s: &[u8], at: usize) -> &[u8]
         return &s[0..0];
     }
     &s[at..next]
-}
-
-// The first eight bytes of a packet, judged against the slice's length.
-fn read_header(s: &[u8], extent: Extent) -> Header
-    ensures { λ r. ⌜ r ≡ headerOf extent (now (s .entry)) ⌝ }
-{
-    if s.len() < FIRST_BLOCK {
-        return Header::Refused(refusal::PACKET_SHORT);
-    }
-    let first = s[0];
-    if first / 64 != 2 {
-        return Header::Refused(refusal::VERSION);
-    }
-    if s[1] != 207 {
-        return Header::Refused(refusal::PACKET_TYPE);
-    }
-    let size = 4 * (wire::u16_at(s, 2) as usize + 1);
-    if !size_fits(extent, size, s.len()) {
-        return Header::Refused(refusal::PACKET_LENGTH);
-    }
-    if first / 32 % 2 != 0 {
-        return Header::Refused(refusal::PADDING);
-    }
-    Header::Sender(wire::u32_at(s, 4), size)
 }
 
 // Whether a packet of this size is what a slice of this length holds.
