@@ -1,0 +1,14 @@
+pub mod Nothing
+pub mod Turning
+pub mod Members
+pub mod Sound
+pub mod Complete
+pub mod Contents
+pub mod Empty
+pub mod Listed
+pub mod Room
+pub mod Same
+pub mod Both
+pub mod Pairing
+pub mod Walking
+pub mod Answering

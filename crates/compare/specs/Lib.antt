@@ -1,0 +1,4 @@
+pub mod Differences
+pub mod Answer
+pub mod Laws
+pub mod Steps
