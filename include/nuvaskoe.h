@@ -6,10 +6,10 @@
  * answers or refuses. A refused call changes no byte of any buffer that it was lent. docs/PROMISES.md says what each
  * promises.
  *
- * Buffers: a pointer and a length in elements: bytes, or 32-bit entries for the list of nuvaskoe_packet_list. Where the
- * length is 0 the pointer may be NULL, and nothing is read or written through it. What stands behind a pointer belongs to
- * the caller, and nothing is kept of it after the call. The buffers of one call do not overlap: nothing is promised of a
- * call whose `out` shares a byte with another buffer of it.
+ * Buffers: a pointer and a length in elements: bytes, or 32-bit numbers for the lists of nuvaskoe_packet_list and
+ * nuvaskoe_packet_compare. Where the length is 0 the pointer may be NULL, and nothing is read or written through it.
+ * What stands behind a pointer belongs to the caller, and nothing is kept of it after the call. The buffers of one call
+ * do not overlap: nothing is promised of a call whose `out` shares a byte with another buffer of it.
  *
  * Threads: the library has no state and allocates nothing. Every call can be made from any threads at once, as long as
  * none writes to a buffer that another one is lent.
@@ -216,6 +216,34 @@ nuvaskoe_part nuvaskoe_packet_body(const uint8_t *packet, size_t packet_len, siz
  * each block.
  */
 nuvaskoe_written nuvaskoe_packet_list(const uint8_t *packet, size_t packet_len, uint32_t *out, size_t out_len);
+
+/* The kinds of difference of two packets, and how many numbers one takes. */
+enum {
+    NUVASKOE_DIFFERENCE_SENDER = 0, /* the senders: both readings are used */
+    NUVASKOE_DIFFERENCE_FIELD = 1, /* a field of two typed blocks of one type: all numbers are used */
+    NUVASKOE_DIFFERENCE_BLOCK = 2, /* the whole block: another type, typed in one packet alone, or other bytes */
+    NUVASKOE_DIFFERENCE_ONLY_FIRST = 3, /* a block that the first packet alone has */
+    NUVASKOE_DIFFERENCE_ONLY_SECOND = 4 /* a block that the second packet alone has */
+};
+#define NUVASKOE_DIFFERENCE_NUMBERS 5
+
+/* The answer of comparing two packets. */
+typedef struct nuvaskoe_compared {
+    nuvaskoe_refusal refusal;
+    size_t differences; /* how many there are, of five numbers each; 0 where refused */
+} nuvaskoe_compared;
+
+/*
+ * Every differing field of two packets, their blocks paired by index: for each difference five numbers of out, its kind, the
+ * block's index, the field's number, and the reading of each packet; those that a kind does not use are 0. The sender comes
+ * first, then block by block, in a block the fields in layout order from 0, the interval flag first. Reserved bits are left
+ * out, and so are the packets that a block 241 covers: its fields after end have numbers one lower than their places above.
+ * The answer counts differences; the numbers after the last keep what they held. out_len counts numbers: five for every
+ * difference, and five times three eighths of the longer packet's bytes are always enough. Refusals: 1 to 6 of the first
+ * packet, then 1 to 6 of the second, then 8, fewer than five numbers for each difference.
+ */
+nuvaskoe_compared nuvaskoe_packet_compare(const uint8_t *first, size_t first_len, const uint8_t *second,
+                                          size_t second_len, uint32_t *out, size_t out_len);
 
 /*
  * One block by itself, from its type, type-specific byte and body: never refused, and never

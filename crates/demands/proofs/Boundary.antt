@@ -15,6 +15,8 @@ use Rattle.packet.specs.declared.PacketHead.{PacketHead}
 use Rattle.packet.specs.declared.PacketHead.the-variants.{Sent, Refused as Head·Refused}
 use Rattle.packet.specs.declared.BlockAt.{BlockAt}
 use Rattle.packet.specs.declared.BlockAt.the-variants.{Found, Refused as Block·Refused}
+use Rattle.compare.specs.declared.Compared.{Compared}
+use Rattle.compare.specs.declared.Compared.the-variants.{Differences, Refused as Compared·Refused}
 use Rattle.trace.specs.Trace.{lost, discarded}
 use Rattle.trace.specs.declared.Event.the-variants.{Lost, Discarded}
 use Rattle.bursts.specs.declared.FiguresRead.{FiguresRead}
@@ -33,7 +35,7 @@ use Rattle.resend.specs.declared.Planned.{Planned}
 use Rattle.resend.specs.declared.Planned.the-variants.{Marks, Refused as Planned·Refused}
 use Rattle.ffi_answer.specs.Answers.{writtenOut}
 use Rattle.ffi_card.specs.Answers.{cardOut}
-use Rattle.ffi_packet.specs.Answers.{packetOut, blockOut}
+use Rattle.ffi_packet.specs.Answers.{packetOut, blockOut, comparedOut}
 use Rattle.ffi_figures.specs.declared.EventRead.the-variants.{Known, Unknown}
 use Rattle.ffi_figures.specs.Answers.{eventIn, figuresOut, figuresBy}
 use Rattle.ffi_tally.specs.declared.TallyNumbers.{TallyNumbers}
@@ -42,7 +44,7 @@ use Rattle.ffi_tally.specs.Calls.{openBy, takeBy, closeBy}
 use Rattle.ffi_summary.specs.Answers.{summaryOut, blockBy}
 use Rattle.ffi_tally.proofs.Back.{tally-back}
 use Rattle.ffi_batch.specs.Answers.{lossOut, marksOut}
-use Rattle.demands.specs.Verdicts.{ofWritten, ofCard, ofHead, ofBlock, ofFigures, ofSummary, ofOpened, ofTaken, ofLoss, ofPlanned}
+use Rattle.demands.specs.Verdicts.{ofWritten, ofCard, ofHead, ofBlock, ofCompared, ofFigures, ofSummary, ofOpened, ofTaken, ofLoss, ofPlanned}
 use Rattle.demands.specs.Orders.{when, judgedBy, figuresRows}
 use Rattle.demands.specs.Boundary.{shown, noEvent, AtBoundary}
 use Rattle.demands.proofs.Orders.{figures, tally-open}
@@ -58,6 +60,10 @@ card-shown (Card·Refused r) = refl
 packet-shown : (a : PacketHead) → packetOut a .refusal ≡ shown (ofHead a)
 packet-shown (Sent sender blocks) = refl
 packet-shown (Head·Refused r) = refl
+
+compared-shown : (a : Compared) → comparedOut a .refusal ≡ shown (ofCompared a)
+compared-shown (Differences n) = refl
+compared-shown (Compared·Refused r) = refl
 
 block-shown : (a : BlockAt) → blockOut a .refusal ≡ shown (ofBlock a)
 block-shown (Found type r) = refl
@@ -128,6 +134,7 @@ at-boundary =
       card = card-shown;
       packet = packet-shown;
       block = block-shown;
+      compared = compared-shown;
       block-of-trace = summary-shown;
       effective-loss = loss-shown;
       resend-plan = marks-shown;

@@ -1,7 +1,7 @@
 -- The three demands hold: each field of specs/Demands.antt is a law of the crate that it speaks of, or proved beside this
 -- file. Assumes nothing.
 use Prim.Native.Nat.{ℕ}
-use mathlib.Core.Path.{_≡_, refl}
+use mathlib.Core.Path.{_≡_, refl, ap}
 use mathlib.Core.Bool.{Bool, true, false}
 use mathlib.Core.List.{List}
 use native.Mathlib.Omega.{arith}
@@ -24,6 +24,12 @@ use Rattle.tally.specs.declared.Answer.the-variants.{Accepted as Answer·Accept
 use Rattle.tally.specs.Tally.{sound, stepOf, refusedWith, takeOne}
 use Rattle.resend.proofs.Answering.{refused-unchanged, plan-best}
 use Rattle.resend.proofs.Repair.{few-left}
+use Rattle.frame.specs.Packet.{packetOf}
+use Rattle.compare.specs.declared.Compared.{Compared}
+use Rattle.compare.specs.Answer.{differencesOf, withDifferences}
+use Rattle.compare.proofs.Empty.{empty-exactly, self-empty, reserved-empty, turned-round}
+use Rattle.compare.proofs.Listed.{listed-exactly}
+use Rattle.compare.proofs.Room.{room-enough}
 use Rattle.demands.specs.Lent.{Unchanged}
 use Rattle.demands.specs.Demands.{Demand1, Demand2, Demand3}
 use Rattle.demands.proofs.Orders.{each-call}
@@ -52,6 +58,7 @@ unchanged =
     record {
       card-write = λ s out r h. kept _ _ out r h;
       packet-list = λ s out r h. kept _ _ out r h;
+      packet-compare = λ s t out r h. ap (λ (answer : Compared). withDifferences answer (differencesOf (packetOf s) (packetOf t)) out) h;
       packet-new = λ sender out r h. kept _ _ out r h;
       packet-add = λ out b r h. kept _ _ out r h;
       resend-plan = λ event s b t out r h. refused-unchanged _ _ _ b t out r h;
@@ -73,6 +80,15 @@ demand-2 =
       packets-read = packets-read;
       packets-written = packets-written;
       blocks-again = blocks-again;
+      packets-compared =
+          record {
+            listed = listed-exactly;
+            empty = empty-exactly;
+            self = self-empty;
+            reserved = reserved-empty;
+            turned = turned-round;
+            room = room-enough;
+          };
       as-published = as-published;
       never-unavailable = never-unavailable;
       cards-guarded =

@@ -1,6 +1,6 @@
 -- Each call gives the first refusal of its order whose condition holds: `EachCall` of specs/Orders.antt. Assumes nothing.
 use Prim.Native.Nat.{ℕ, zero, suc, _*_, _/_, _%_, _≤_}
-use mathlib.Core.Path.{_≡_, refl, sym, _∙_}
+use mathlib.Core.Path.{_≡_, refl, sym, ap, _∙_}
 use mathlib.Core.Bool.{Bool, true, false, cond, not}
 use mathlib.Core.List.{List, [], _∷_, _++_}
 use native.Mathlib.Omega.{arith}
@@ -25,9 +25,10 @@ use Rattle.frame.specs.declared.Extent.the-variants.{Whole, Front}
 use Rattle.frame.specs.declared.Header.{Header}
 use Rattle.frame.specs.declared.Header.the-variants.{Sender, Refused as Header·Refused}
 use Rattle.frame.specs.Frames.{Entry, Frames, whole, past, firstBlock, entriesOf}
-use Rattle.frame.specs.Packet.{numbered, sizeIn, sizeFits, headerOf, ofFrames, framed, packetIn, packetOf, locatedOf}
+use Rattle.frame.specs.Packet.{Packet, good, bad, numbered, sizeIn, sizeFits, headerOf, ofFrames, framed, packetIn, packetOf, locatedOf}
 use Rattle.packet.specs.Answers.{headOf, found, blockOf}
 use Rattle.survey.specs.Survey.{listAnswer}
+use Rattle.compare.specs.Answer.{differencesOf, compareAnswer}
 use Rattle.compose.specs.Writing.{lengthAfter, lengthMax, sizeAfter, appended, appendAnswer, ownOf, addAnswer}
 use Rattle.trace.specs.declared.Event.{Event}
 use Rattle.trace.specs.declared.Event.the-variants.{Lost, Discarded}
@@ -48,7 +49,7 @@ use Rattle.batch.specs.Loss.{lossAnswer}
 use Rattle.resend.specs.declared.Planned.the-variants.{Refused as Planned·Refused}
 use Rattle.resend.specs.Answer.{planAnswer}
 use Rattle.demands.specs.Orders.{Row, when, judgedBy, headerRows, pastRows, framesAt, blocksIn, packetRows, roomRows, ownRows, traceRows, figuresRows, batchRows, EachCall}
-use Rattle.demands.specs.Verdicts.{ofWritten, ofCard, ofHead, ofBlock, ofFigures, ofSummary, ofOpened, ofTaken, ofLoss, ofPlanned, ofLocated}
+use Rattle.demands.specs.Verdicts.{ofWritten, ofCard, ofHead, ofBlock, ofCompared, ofFigures, ofSummary, ofOpened, ofTaken, ofLoss, ofPlanned, ofLocated}
 
 -- "less" is "not at least"
 less : (a b : ℕ) → ltb a b ≡ not (leb b a)
@@ -149,6 +150,23 @@ list-frames sender (past offset) out = first-holds (blockPastEnd offset) _
 packet-list : (s out : List ℕ) → ofWritten (listAnswer (packetOf s) out) ≡ judgedBy (packetRows Whole s ++ when (ltb (length out) (2 * blocksIn s)) bufferShort ∷ [])
 unfolding packetIn
 packet-list s out = header Whole s (λ h. ofWritten (listAnswer (framed h s) out)) (λ r. refl) _ (list-frames (be32 s 4) (framesAt s) out)
+
+-- the first packet's lines, the second's, then the room
+compared-rows : (p q : Packet) (out : List ℕ) →
+    ofCompared (compareAnswer p q out) ≡ ifAccepted (ofHead (headOf p)) Refused (ifAccepted (ofHead (headOf q)) Refused (judgedBy (when (ltb (length out) (5 * length (differencesOf p q))) bufferShort ∷ [])))
+compared-rows (good a xs) (good b ys) out = at-least ofCompared (5 * length (differencesOf (good a xs) (good b ys))) (length out) bufferShort _ _ [] refl answered
+compared-rows (good a xs) (bad r) out = refl
+compared-rows (bad r) q out = refl
+
+packet-compare : (s t out : List ℕ) →
+    ofCompared (compareAnswer (packetOf s) (packetOf t) out)
+    ≡ judgedBy (packetRows Whole s ++ (packetRows Whole t ++ when (ltb (length out) (5 * length (differencesOf (packetOf s) (packetOf t)))) bufferShort ∷ []))
+packet-compare s t out =
+    let room = when (ltb (length out) (5 * length (differencesOf (packetOf s) (packetOf t)))) bufferShort ∷ [] in
+    compared-rows (packetOf s) (packetOf t) out
+    ∙ ap (λ (j : Judged). ifAccepted j Refused (ifAccepted (ofHead (headOf (packetOf t))) Refused (judgedBy room))) (packet-head s)
+    ∙ ap (λ (j : Judged). ifAccepted (judgedBy (packetRows Whole s)) Refused (ifAccepted j Refused (judgedBy room))) (packet-head t)
+    ∙ sym (both-orders (packetRows Whole s) (packetRows Whole t ++ room) ∙ ap (ifAccepted (judgedBy (packetRows Whole s)) Refused) (both-orders (packetRows Whole t) room))
 
 own-rows : (own : Judged) → own ≡ judgedBy (ownRows own)
 own-rows Accepted = answered
@@ -262,6 +280,7 @@ each-call =
       packet-head = packet-head;
       packet-block = packet-block;
       packet-list = packet-list;
+      packet-compare = packet-compare;
       packet-new = λ out. at-least ofWritten firstBlock (length out) bufferShort _ _ [] refl answered;
       packet-add = packet-add;
       append = λ s own n. append-rows s own n (ownRows own) (own-rows own);

@@ -15,6 +15,7 @@ use Rattle.settings.specs.Ranges.{burstInRange}
 use Rattle.card.specs.declared.CardRead.{CardRead}
 use Rattle.packet.specs.declared.PacketHead.{PacketHead}
 use Rattle.packet.specs.declared.BlockAt.{BlockAt}
+use Rattle.compare.specs.declared.Compared.{Compared}
 use Rattle.trace.specs.Trace.{lost, discarded}
 use Rattle.tally.specs.declared.Tally.{Tally}
 use Rattle.tally.specs.Tally.{takeOne, closeOf}
@@ -24,14 +25,14 @@ use Rattle.batch.specs.declared.LossRead.{LossRead}
 use Rattle.resend.specs.declared.Planned.{Planned}
 use Rattle.ffi_answer.specs.Answers.{none, writtenOut}
 use Rattle.ffi_card.specs.Answers.{cardOut}
-use Rattle.ffi_packet.specs.Answers.{packetOut, blockOut}
+use Rattle.ffi_packet.specs.Answers.{packetOut, blockOut, comparedOut}
 use Rattle.ffi_figures.specs.Answers.{eventIn, figuresBy}
 use Rattle.ffi_tally.specs.declared.TallyNumbers.{TallyNumbers}
 use Rattle.ffi_tally.specs.Answers.{tallyIn, tallyOut}
 use Rattle.ffi_tally.specs.Calls.{openBy, takeBy, closeBy}
 use Rattle.ffi_summary.specs.Answers.{summaryOut, blockBy}
 use Rattle.ffi_batch.specs.Answers.{lossOut, marksOut}
-use Rattle.demands.specs.Verdicts.{ofWritten, ofCard, ofHead, ofBlock, ofFigures, ofSummary, ofTaken, ofLoss, ofPlanned}
+use Rattle.demands.specs.Verdicts.{ofWritten, ofCard, ofHead, ofBlock, ofCompared, ofFigures, ofSummary, ofTaken, ofLoss, ofPlanned}
 use Rattle.demands.specs.Orders.{when, judgedBy, figuresRows}
 
 abbrev pub shown : Judged → Refusal
@@ -47,6 +48,7 @@ pub record AtBoundary : Type 0 where
   pub card : (a : CardRead) → cardOut a .refusal ≡ shown (ofCard a)
   pub packet : (a : PacketHead) → packetOut a .refusal ≡ shown (ofHead a)
   pub block : (a : BlockAt) → blockOut a .refusal ≡ shown (ofBlock a)
+  pub compared : (a : Compared) → comparedOut a .refusal ≡ shown (ofCompared a)
   pub block-of-trace : (a : Summary) → summaryOut a .refusal ≡ shown (ofSummary a)
   pub effective-loss : (a : LossRead) → lossOut a .refusal ≡ shown (ofLoss a)
   pub resend-plan : (a : Planned) → marksOut a .refusal ≡ shown (ofPlanned a)

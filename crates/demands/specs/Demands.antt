@@ -15,7 +15,7 @@ use Rattle.resend.specs.Laws.{planIn}
 use Rattle.demands.specs.Orders.{EachCall, Conditions}
 use Rattle.demands.specs.Lent.{Unchanged}
 use Rattle.demands.specs.Boundary.{AtBoundary}
-use Rattle.demands.specs.Packets.{PacketsRead, PacketsWritten, BlocksAgain}
+use Rattle.demands.specs.Packets.{PacketsRead, PacketsWritten, BlocksAgain, PacketsCompared}
 use Rattle.demands.specs.Formulas.{AsPublished, NeverUnavailable}
 use Rattle.demands.specs.Cards.{CardsGuarded}
 
@@ -36,6 +36,8 @@ pub record Demand2 : Type 0 where
   pub packets-written : PacketsWritten
   -- "Each block written, read by itself, is the same block again."
   pub blocks-again : BlocksAgain
+  -- document 02, ticket 1: "lists every differing field of their two packets, blocks paired by index"
+  pub packets-compared : PacketsCompared
   -- "Burst, gap and effective loss figures equal their published formulas,"
   pub as-published : AsPublished
   -- "and a figure that could be measured is never sent as unavailable."

@@ -13,6 +13,8 @@ use Rattle.block.specs.declared.Block.{Block}
 use Rattle.encode.specs.Words.{wordsOf}
 use Rattle.frame.specs.Packet.{packetOf}
 use Rattle.survey.specs.Survey.{listOf, listAnswer}
+use Rattle.compare.specs.Answer.{compareAnswer, listAfter}
+use Rattle.compare.specs.declared.Compared.the-variants.{Refused as Compared·Refused}
 use Rattle.compose.specs.Writing.{newBytes, newAnswer, grown, addAnswer}
 use Rattle.trace.specs.declared.Event.{Event}
 use Rattle.trace.specs.Trace.{countedAt, judged}
@@ -27,6 +29,7 @@ use Rattle.resend.specs.Answer.{planAnswer, bufferAfter}
 pub record Unchanged : Type 0 where
   pub card-write : (s : Settings) (out : List ℕ) (r : Refusal) → writeCard limits s out ≡ Refused r → after (writeCard limits s out) (cardOf s) out ≡ out
   pub packet-list : (s out : List ℕ) (r : Refusal) → listAnswer (packetOf s) out ≡ Refused r → after (listAnswer (packetOf s) out) (listOf (packetOf s)) out ≡ out
+  pub packet-compare : (s t out : List ℕ) (r : Refusal) → compareAnswer (packetOf s) (packetOf t) out ≡ Compared·Refused r → listAfter (packetOf s) (packetOf t) out ≡ out
   pub packet-new : (sender : ℕ) (out : List ℕ) (r : Refusal) → newAnswer out ≡ Refused r → after (newAnswer out) (newBytes sender) out ≡ out
   pub packet-add : (out : List ℕ) (b : Block) (r : Refusal) → addAnswer out b ≡ Refused r → after (addAnswer out b) (grown out (wordsOf b)) out ≡ out
   pub resend-plan : (event : Event) (s : List ℕ) (b t : ℕ) (out : List ℕ) (r : Refusal) →

@@ -21,6 +21,7 @@ use Rattle.frame.specs.Frames.{Frames, whole, past, firstBlock, framesIn, entri
 use Rattle.frame.specs.Packet.{sizeIn, sizeFits, packetOf}
 use Rattle.packet.specs.Answers.{headOf, blockOf}
 use Rattle.survey.specs.Survey.{listAnswer}
+use Rattle.compare.specs.Answer.{differencesOf, compareAnswer}
 use Rattle.compose.specs.Writing.{newAnswer, lengthAfter, lengthMax, sizeAfter, addAnswer}
 use Rattle.trace.specs.declared.Event.{Event}
 use Rattle.trace.specs.Trace.{packetMax, traceMax, countedAt, lengthInRange, firstBad, judged}
@@ -38,7 +39,7 @@ use Rattle.bursts.specs.Sums.{sumsSound}
 use Rattle.bursts.specs.Figures.{measureOf}
 use Rattle.tally.specs.Tally.{ofTrace}
 use Rattle.trace.specs.Laws.{Accepted-trace, Trace-accepted, First-bad}
-use Rattle.demands.specs.Verdicts.{ofWritten, ofCard, ofHead, ofBlock, ofFigures, ofSummary, ofOpened, ofTaken, ofLoss, ofPlanned, ofLocated}
+use Rattle.demands.specs.Verdicts.{ofWritten, ofCard, ofHead, ofBlock, ofCompared, ofFigures, ofSummary, ofOpened, ofTaken, ofLoss, ofPlanned, ofLocated}
 
 -- a refusal of the table beside its condition
 pub record Row : Type 0 where
@@ -114,6 +115,10 @@ pub record EachCall : Type 0 where
       ofBlock (blockOf (packetOf s) k) ≡ judgedBy (packetRows Whole s ++ when (leb (blocksIn s) k) noSuchBlock ∷ [])
   pub packet-list : (s out : List ℕ) →
       ofWritten (listAnswer (packetOf s) out) ≡ judgedBy (packetRows Whole s ++ when (ltb (length out) (2 * blocksIn s)) bufferShort ∷ [])
+  -- document 02, ticket 1: "1 to 6, first packet before second, then 8"
+  pub packet-compare : (s t out : List ℕ) →
+      ofCompared (compareAnswer (packetOf s) (packetOf t) out)
+      ≡ judgedBy (packetRows Whole s ++ (packetRows Whole t ++ when (ltb (length out) (5 * length (differencesOf (packetOf s) (packetOf t)))) bufferShort ∷ []))
   -- a new packet: 8. "Adding a block: the packet's own, then 16, 17, 8"
   pub packet-new : (out : List ℕ) → ofWritten (newAnswer out) ≡ judgedBy (when (ltb (length out) firstBlock) bufferShort ∷ [])
   pub packet-add : (s : List ℕ) (b : Block) →

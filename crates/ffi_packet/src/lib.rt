@@ -1,4 +1,5 @@
 // Report packets read at the boundary to C.
+use compare::Compared;
 use ffi_answer::NONE;
 use ffi_answer::WrittenSize;
 use ffi_block::BlockFields;
@@ -11,8 +12,9 @@ ghost use Rattle.refusal.specs.Answer.{after};
 ghost use Rattle.frame.specs.Packet.{packetOf};
 ghost use Rattle.packet.specs.Answers.{headOf, blockOf, partOf};
 ghost use Rattle.survey.specs.Survey.{listOf, listAnswer};
+ghost use Rattle.compare.specs.Answer.{compareAnswer, listAfter};
 ghost use Rattle.ffi_answer.specs.Answers.{writtenOut};
-ghost use Rattle.ffi_packet.specs.Answers.{packetOut, blockOut};
+ghost use Rattle.ffi_packet.specs.Answers.{packetOut, blockOut, comparedOut};
 
 // What a packet says of itself.
 // C: nuvaskoe_packet
@@ -21,6 +23,14 @@ pub struct Packet {
     pub refusal: Refusal,
     pub sender: u32, // 0 where refused
     pub blocks: usize, // how many blocks it has; 0 where refused
+}
+
+// The answer of comparing two packets.
+// C: nuvaskoe_compared
+#[repr(C)]
+pub struct Comparison {
+    pub refusal: Refusal,
+    pub differences: usize, // how many there are, of five numbers each; 0 where refused
 }
 
 // Of a refused call: 0 would read as typed.
@@ -53,6 +63,21 @@ pub fn block_out(b: BlockAt) -> BlockFields
             block_type: 0,
             verdict: NO_VERDICT,
             fields: ffi_block::NO_FIELDS,
+        },
+    }
+}
+
+pub fn compared_out(c: Compared) -> Comparison
+    ensures { λ r. ⌜ r ≡ comparedOut c ⌝ }
+{
+    match c {
+        Compared::Differences(differences) => Comparison {
+            refusal: NONE,
+            differences,
+        },
+        Compared::Refused(refusal) => Comparison {
+            refusal,
+            differences: 0,
         },
     }
 }
@@ -91,4 +116,23 @@ pub extern "C" fn nuvaskoe_packet_list(packet: &[u8], out: &mut [u32]) -> Writte
     ensures buffer { λ r. ⌜ now (out .exit) ≡ after (listAnswer (packetOf (now (packet .entry))) (now (out .entry))) (listOf (packetOf (now (packet .entry)))) (now (out .entry)) ⌝ }
 {
     ffi_answer::written_out(survey::list(packet, out))
+}
+
+// Every differing field of two packets, their blocks paired by index: for each difference five numbers of out, its kind, the
+// block's index, the field's number, and the reading of each packet; those that a kind does not use are 0. The sender comes
+// first, then block by block, in a block the fields in layout order from 0, the interval flag first. Reserved bits are left
+// out, and so are the packets that a block 241 covers: its fields after end have numbers one lower than their places above.
+// The answer counts differences; the numbers after the last keep what they held. out_len counts numbers: five for every
+// difference, and five times three eighths of the longer packet's bytes are always enough. Refusals: 1 to 6 of the first
+// packet, then 1 to 6 of the second, then 8, fewer than five numbers for each difference.
+#[no_mangle]
+pub extern "C" fn nuvaskoe_packet_compare(
+    first: &[u8],
+    second: &[u8],
+    out: &mut [u32],
+) -> Comparison
+    ensures answer { λ r. ⌜ r ≡ comparedOut (compareAnswer (packetOf (now (first .entry))) (packetOf (now (second .entry))) (now (out .entry))) ⌝ }
+    ensures list { λ r. ⌜ now (out .exit) ≡ listAfter (packetOf (now (first .entry))) (packetOf (now (second .entry))) (now (out .entry)) ⌝ }
+{
+    compared_out(compare::packets(first, second, out))
 }

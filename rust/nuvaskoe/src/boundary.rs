@@ -25,6 +25,12 @@ pub(crate) const OVER_RANGE: u16 = 65534;
 pub(crate) const UNAVAILABLE: u16 = 65535;
 pub(crate) const FULL_LOSS: usize = 65535;
 pub(crate) const FIELDS: usize = 13;
+pub(crate) const DIFFERENCE_SENDER: u32 = 0;
+pub(crate) const DIFFERENCE_FIELD: u32 = 1;
+pub(crate) const DIFFERENCE_BLOCK: u32 = 2;
+pub(crate) const DIFFERENCE_ONLY_FIRST: u32 = 3;
+pub(crate) const DIFFERENCE_ONLY_SECOND: u32 = 4;
+pub(crate) const DIFFERENCE_NUMBERS: usize = 5;
 pub(crate) const TRACE_MAX: usize = 65536;
 pub(crate) const EVENT_LOST: u32 = 1;
 pub(crate) const EVENT_DISCARDED: u32 = 2;
@@ -81,6 +87,13 @@ pub(crate) struct Block {
 pub(crate) struct Part {
     pub(crate) start: usize,
     pub(crate) length: usize,
+}
+
+#[repr(C)]
+#[derive(Debug, Clone, Copy, PartialEq, Eq)]
+pub(crate) struct Compared {
+    pub(crate) refusal: Refusal,
+    pub(crate) differences: usize,
 }
 
 #[repr(C)]
@@ -228,6 +241,7 @@ extern "C" {
     pub(crate) fn nuvaskoe_packet_block(packet: *const u8, packet_len: usize, index: usize) -> Block;
     pub(crate) fn nuvaskoe_packet_body(packet: *const u8, packet_len: usize, index: usize) -> Part;
     pub(crate) fn nuvaskoe_packet_list(packet: *const u8, packet_len: usize, out: *mut u32, out_len: usize) -> Written;
+    pub(crate) fn nuvaskoe_packet_compare(first: *const u8, first_len: usize, second: *const u8, second_len: usize, out: *mut u32, out_len: usize) -> Compared;
     pub(crate) fn nuvaskoe_packet_new(sender: u32, out: *mut u8, out_len: usize) -> Written;
     pub(crate) fn nuvaskoe_packet_add_measurement(out: *mut u8, out_len: usize, block: Measurement) -> Written;
     pub(crate) fn nuvaskoe_packet_add_loss(out: *mut u8, out_len: usize, block: LossSummary) -> Written;
@@ -264,6 +278,7 @@ pub(crate) const LAYOUTS: &[Layout] = &[
     layout!("nuvaskoe_packet", Packet { refusal: Refusal, sender: u32, blocks: usize }),
     layout!("nuvaskoe_block", Block { refusal: Refusal, block_type: u32, verdict: u32, fields: [u32; 13] }),
     layout!("nuvaskoe_part", Part { start: usize, length: usize }),
+    layout!("nuvaskoe_compared", Compared { refusal: Refusal, differences: usize }),
     layout!("nuvaskoe_measurement", Measurement { source: u32, first: u16, extended_first: u32, extended_last: u32, interval: u32, seconds: u32, fraction: u32 }),
     layout!("nuvaskoe_loss_summary", LossSummary { flag: u8, source: u32, burst_rate: u16, gap_rate: u16, burst_mean: u16, burst_variance: u16 }),
     layout!("nuvaskoe_discard_summary", DiscardSummary { flag: u8, source: u32, burst_rate: u16, gap_rate: u16 }),
