@@ -24,15 +24,35 @@ static void check_reading(void)
     CHECK(nuvaskoe_block_read(NUVASKOE_BLOCK_LOSS, 64, NULL, 0).verdict == NUVASKOE_VERDICT_BAD_SIZE);
 }
 
-/* A packet without blocks needs no entry, so its list may be NULL too. */
+/* A packet without blocks needs no entry, so its list may be NULL too, and so may that of what differs from itself. */
 static void check_empty_list(void)
 {
     uint8_t packet[8];
+    uint8_t other[8];
     nuvaskoe_written listed;
+    nuvaskoe_compared compared;
 
     CHECK(nuvaskoe_packet_new(1, packet, sizeof packet).size == sizeof packet);
     listed = nuvaskoe_packet_list(packet, sizeof packet, NULL, 0);
     CHECK(refused(listed.refusal, NUVASKOE_OK) && listed.size == 0);
+    compared = nuvaskoe_packet_compare(packet, sizeof packet, packet, sizeof packet, NULL, 0);
+    CHECK(refused(compared.refusal, NUVASKOE_OK) && compared.differences == 0);
+    CHECK(nuvaskoe_packet_new(2, other, sizeof other).size == sizeof other);
+    compared = nuvaskoe_packet_compare(packet, sizeof packet, other, sizeof other, NULL, 0);
+    CHECK(refused(compared.refusal, NUVASKOE_REFUSAL_BUFFER_SHORT) && compared.differences == 0);
+}
+
+/* Either packet, or both, and the list of what differs. */
+static void check_comparing(void)
+{
+    uint32_t held = 7;
+    uint8_t packet[8];
+
+    CHECK(nuvaskoe_packet_new(1, packet, sizeof packet).size == sizeof packet);
+    CHECK(refused(nuvaskoe_packet_compare(NULL, 0, NULL, 0, NULL, 0).refusal, NUVASKOE_REFUSAL_PACKET_SHORT));
+    CHECK(refused(nuvaskoe_packet_compare(NULL, 0, packet, sizeof packet, &held, 1).refusal, NUVASKOE_REFUSAL_PACKET_SHORT));
+    CHECK(refused(nuvaskoe_packet_compare(packet, sizeof packet, NULL, 0, &held, 1).refusal, NUVASKOE_REFUSAL_PACKET_SHORT));
+    CHECK(held == 7);
 }
 
 static void check_writing(void)
@@ -68,6 +88,7 @@ int main(void)
 {
     check_reading();
     check_empty_list();
+    check_comparing();
     check_writing();
     check_traces();
     return checked("empty.c");

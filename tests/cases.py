@@ -1,6 +1,6 @@
 #!/usr/bin/env python3
 """Runs the worked cases, cases/*.txt, by the Rust example `cases`, and compares what it writes with text computed by
-tests/document01.py.
+tests/document01.py and document02.py.
 
 Run in the repository's root after tools/archive.sh. Prints each line that differs and exits with status 1, or one line for each
 file. `--print FILE` writes the text computed for one file instead, for which the example is not needed. A case is a word, its
@@ -12,20 +12,22 @@ import sys
 
 sys.dont_write_bytecode = True  # a run leaves no files in the tree
 import document01
+import document02
 from document01 import DISCARDED, LOST, Refused
 
 PROGRAM = ["cargo", "run", "--offline", "--quiet", "--example", "cases"]
-SHOWN_BYTES, SHOWN_ENTRIES = 64, 16
+SHOWN_BYTES, SHOWN_ENTRIES, SHOWN_NUMBERS = 64, 16, 100
 HELD = 7  # what each lent byte or entry holds before the call
 
 # The greatest number that a field holds, by the field's name; any other field holds 32 bits.
 LIMITS = {"type": 255, "specific": 255, "flag": 255, "packet": 255, "first": 65535, "begin": 65535, "end": 65535,
           "burst": 65535, "gap": 65535, "mean": 65535, "var": 65535, "index": 65535, "LEN": 262144, "ROOM": 262144,
-          "ENTRIES": 262144}
+          "ENTRIES": 262144, "NUMBERS": 262144}
 TALLY = "event gmin spacing E L Eb Lb n S Q events packets since"
 # The fields of each word, then the kind of its data, if it takes any.
 NUMBERS = {
     "read": ("LEN", "bytes"), "block": ("k LEN", "bytes"), "body": ("k LEN", "bytes"), "list": ("ENTRIES LEN", "bytes"),
+    "compare": ("NUMBERS LEN LEN", "pair"),
     "alone": ("type specific LEN", "bytes"), "new": ("sender ROOM", None),
     "add14": ("source first efirst elast interval seconds fraction LEN", "bytes"),
     "add17": ("flag source burst gap mean var LEN", "bytes"), "add18": ("flag source burst gap LEN", "bytes"),
@@ -37,9 +39,9 @@ NUMBERS = {
     "close": (TALLY, None), "tallyblock": (TALLY + " source flag", None), "take": (TALLY + " packet", None),
     "loss": ("B T LEN", "trace"), "plan": ("B T ROOM LEN", "trace"),
 }
-# Type, whether a flag comes first, where the rates stand, and the words after the first as struct has them.
-LAYOUTS = {"add14": (14, False, (), "I2xHIIIII"), "add17": (17, True, (2, 3), "IHHHH"), "add18": (18, True, (2, 3), "IHH"),
-           "add240": (240, False, (), "IH2x"), "add241": (241, False, (), "IHHI8I")}
+# Type, whether a flag comes first, and where the rates stand.
+ADDED = {"add14": (14, False, ()), "add17": (17, True, (2, 3)), "add18": (18, True, (2, 3)), "add240": (240, False, ()),
+         "add241": (241, False, ())}
 
 
 class NoCase(Exception):
@@ -70,9 +72,21 @@ def parsed(line):
         return word, numbers, b""
     if kind == "card":
         return word, numbers, text.encode("latin-1")
-    data = trace_data(text) if kind == "trace" else hexadecimal(text)
-    no_case_if(len(data) > numbers[-1])
-    return word, numbers, data + bytes(numbers[-1] - len(data))
+    if kind == "pair":
+        return word, numbers, pair_data(text, numbers[-2:])
+    return word, numbers, sized(trace_data(text) if kind == "trace" else hexadecimal(text), numbers[-1])
+
+
+def sized(data, size):
+    no_case_if(len(data) > size)
+    return data + bytes(size - len(data))
+
+
+def pair_data(text, sizes):
+    """Two packets; both or the second may be left out."""
+    texts = text.split(" ")
+    no_case_if(len(texts) > 2 or len(texts) == 2 and "" in texts)
+    return [sized(hexadecimal(some), size) for some, size in zip(texts + [""], sizes)]
 
 
 def trace_data(text):
@@ -101,6 +115,10 @@ def shown_table(some):
     return shown("table", [str(entry) for entry in some[:SHOWN_ENTRIES]], " ")
 
 
+def shown_numbers(some):
+    return shown("numbers", [str(number) for number in some[:SHOWN_NUMBERS]], " ")
+
+
 def filled(lent, call, answer, show):
     """A call that fills the lent numbers from the front: its answer or refusal, and what they then hold."""
     try:
@@ -115,16 +133,16 @@ def size_of(front):
 
 
 def adding(word, numbers, buffer):
-    kind, flagged, rates_at, layout = LAYOUTS[word]
+    kind, flagged, rates_at = ADDED[word]
     flag = numbers[0] if flagged else 0
     rates = [numbers[at] for at in rates_at]
     fields = numbers[flagged:-1]
-    return filled(list(buffer), lambda: document01.added(buffer, kind, flag, rates, layout, fields), size_of, shown_bytes)
+    return filled(list(buffer), lambda: document01.added(buffer, kind, flag, rates, fields), size_of, shown_bytes)
 
 
 def lending(word, numbers, data):
     """The cases that lend a buffer or an array."""
-    if word in LAYOUTS:
+    if word in ADDED:
         return adding(word, numbers, data)
     if word == "new":
         return filled([HELD] * numbers[1], lambda: document01.new_packet(*numbers), size_of, shown_bytes)
@@ -133,6 +151,9 @@ def lending(word, numbers, data):
     if word == "list":
         return filled([HELD] * numbers[0], lambda: document01.places_and_verdicts(data, numbers[0]),
                       lambda front: f"entries {len(front)}", shown_table)
+    if word == "compare":
+        return filled([HELD] * numbers[0], lambda: document02.differences(*data, numbers[0]),
+                      lambda front: f"differences {len(front) // 5}", shown_numbers)
     batch, threshold, room, _ = numbers
     return filled([HELD] * room, lambda: document01.plan(batch, threshold, data, room),
                   lambda front: f"marks {sum(front)}", shown_plan)
@@ -170,7 +191,7 @@ def asking(word, numbers, data):
 def answer(line):
     try:
         word, numbers, data = parsed(line)
-        if word in LAYOUTS or word in ("new", "write", "list", "plan"):
+        if word in ADDED or word in ("new", "write", "list", "compare", "plan"):
             return lending(word, numbers, data)
         return asking(word, numbers, data)
     except NoCase:

@@ -8,6 +8,8 @@ import itertools
 import struct
 
 WORDS = {14: 7, 17: 3, 18: 2, 240: 2, 241: 11}
+# The words after the first, as struct has them; 2x stands for 16 reserved bits.
+LAYOUTS = {14: "I2xHIIIII", 17: "IHHHH", 18: "IHH", 240: "IH2x", 241: "IHHI8I"}
 UNAVAILABLE, OVER_RANGE, GREATEST = 65535, 65534, 65533
 MOST_PACKETS = 65536
 MOST_DURATION = 2621440
@@ -144,12 +146,12 @@ def new_packet(sender, room):
     return struct.pack(">BBHI", 128, 207, 1, sender)
 
 
-def block_bytes(kind, flag, layout, numbers):
-    """A block from the numbers of its layout, as struct has it; 2x stands for 16 reserved bits."""
-    return struct.pack(">BBH", kind, flag * 64, WORDS[kind]) + struct.pack(">" + layout, *numbers)
+def block_bytes(kind, flag, numbers):
+    """A block from the numbers of its layout."""
+    return struct.pack(">BBH", kind, flag * 64, WORDS[kind]) + struct.pack(">" + LAYOUTS[kind], *numbers)
 
 
-def added(buffer, kind, flag, rates, layout, numbers):
+def added(buffer, kind, flag, rates, numbers):
     """The packet at the front of the buffer with one block more."""
     packet_blocks(buffer, len(buffer))
     if kind in (17, 18):
@@ -159,7 +161,7 @@ def added(buffer, kind, flag, rates, layout, numbers):
     refuse_if(length > 65535, 17)
     refuse_if(4 * (length + 1) > len(buffer), 8)
     front = buffer[:2] + struct.pack(">H", length) + buffer[4:size]
-    return front + block_bytes(kind, flag, layout, numbers)
+    return front + block_bytes(kind, flag, numbers)
 
 
 # The trace and its figures

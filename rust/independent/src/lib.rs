@@ -1,5 +1,5 @@
 //! A plain second implementation of document 01, written from that document alone, but for
-//! `late_tally`, a model of what the document leaves free.
+//! `late_tally`, a model of what the document leaves free, and `compare`, document 02's request 1.
 //! It shares no code with the library it checks, and prefers the document's own
 //! words to speed: where the two disagree, one of them misreads the document.
 #![forbid(unsafe_code)]
@@ -7,6 +7,7 @@
 pub mod block;
 pub mod burst;
 pub mod card;
+pub mod compare;
 pub mod compose;
 pub mod effective;
 pub mod late_tally;

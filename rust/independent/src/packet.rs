@@ -65,17 +65,37 @@ pub fn body(packet: &[u8], index: usize) -> &[u8] {
 /// Gives every block of a packet to `each`, in order. One pass finds the sources that
 /// have a measurement, a second reads the blocks: D4 looks both ways.
 pub fn walk(packet: &[u8], mut each: impl FnMut(&Frame, Reading)) -> Result<(), Refusal> {
+    let sources = sources(packet)?;
+    for frame in frames(packet).flatten() {
+        let has = |source| sources.binary_search(&source).is_ok();
+        each(&frame, in_packet(packet, &frame, has));
+    }
+    Ok(())
+}
+
+/// The sources that have a measurement, in rising order and each once.
+pub fn sources(packet: &[u8]) -> Result<Vec<u32>, Refusal> {
     sender(packet)?;
     let mut sources = Vec::new();
     for frame in frames(packet) {
         sources.extend(measured(packet, &frame?));
     }
     sources.sort_unstable();
-    for frame in frames(packet).flatten() {
-        let has = |source| sources.binary_search(&source).is_ok();
-        each(&frame, in_packet(packet, &frame, has));
-    }
-    Ok(())
+    sources.dedup();
+    Ok(sources)
+}
+
+/// The blocks of a good packet, each from its type to the end of its body.
+pub fn blocks(packet: &[u8]) -> impl Iterator<Item = &[u8]> {
+    let mut rest = &packet[8..];
+    iter::from_fn(move || {
+        if rest.is_empty() {
+            return None;
+        }
+        let block;
+        (block, rest) = rest.split_at(4 + 4 * usize::from(half(rest, 2)));
+        Some(block)
+    })
 }
 
 /// Every block's offset and verdict.

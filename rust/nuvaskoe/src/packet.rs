@@ -7,8 +7,10 @@
 // Rust shows.
 
 mod blocks;
+mod differences;
 
 pub use blocks::{blocks, Blocks, PacketBlock};
+pub use differences::{compare, differences, Difference};
 
 use crate::{
     block::{Block, Reading},

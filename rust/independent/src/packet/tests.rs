@@ -48,6 +48,7 @@ fn refused_by_all(packet: &[u8], refusal: Refusal) {
     assert_eq!(judge(packet), Err(refusal));
     assert_eq!(read(packet), Err(refusal));
     assert_eq!(list(packet), Err(refusal));
+    assert_eq!(sources(packet), Err(refusal));
     let mut out = [7; 8];
     assert_eq!(list_into(packet, &mut out), Err(refusal));
     assert_eq!(out, [7; 8]);
@@ -271,12 +272,23 @@ fn all_ways_agree() {
     assert_eq!(read(&bytes), Ok((1, blocks.len())));
     assert_eq!(judged.blocks.len(), blocks.len());
     assert_eq!(listed.len(), blocks.len());
+    assert!(super::blocks(&bytes).eq(&blocks));
     for (index, frame) in judged.blocks.iter().enumerate() {
         assert_eq!(listed[index], (frame.offset, verdict(&bytes, index)));
         assert_eq!(body(&bytes, index), &bytes[frame.body.clone()]);
         assert_eq!(frame.block_type, bytes[frame.offset]);
         assert_eq!(frame.specific, bytes[frame.offset + 1]);
     }
+}
+
+#[test]
+fn sources_that_have_a_measurement() {
+    let measured = [9, 3, 9, 200].map(|source| sourced(14, source));
+    let others = [17, 18, 240, 241].map(|kind| sourced(kind, 5));
+    let bytes = packet(&[measured.concat(), zeros(14, 0, 6), others.concat()]);
+    assert_eq!(sources(&bytes), Ok(vec![3, 9, 200]));
+    assert_eq!(sources(&packet(&others)), Ok(vec![]));
+    assert_eq!(super::blocks(&packet(&[])).count(), 0);
 }
 
 #[test]

@@ -12,6 +12,8 @@
 //! - packets: `read` asks for the sender and the number of blocks, `all` for every block's
 //!   offset and verdict, `last` for the last block by its index and `body` for its body;
 //!   `alone` reads one block by itself;
+//! - comparing: `diff` lists the differences of two packets, each of so many bytes, into a list
+//!   with room that is always enough;
 //! - writing: `new` writes a packet without blocks, `add` adds one block to the packet named,
 //!   and `make` makes the packet named from a new one, by adding one block after the other;
 //! - traces, a byte a packet: `figs` gives the burst figures, `plan` the resend plan and
@@ -25,6 +27,7 @@ mod support;
 
 mod batches;
 mod cards;
+mod comparing;
 mod measuring;
 mod reading;
 mod tallies;
@@ -80,6 +83,7 @@ fn main() {
     );
     cards::time();
     reading::time();
+    comparing::time();
     writing::time();
     let traces = measuring::traces();
     measuring::time(&traces);

@@ -41,7 +41,7 @@ fn cases() -> Vec<Case> {
 }
 
 /// A packet of `length` bytes: empty unknown blocks where `blocks` leave room, then those.
-fn filled(length: usize, blocks: Vec<Vec<u8>>) -> Vec<u8> {
+pub fn filled(length: usize, blocks: Vec<Vec<u8>>) -> Vec<u8> {
     let used: usize = blocks.iter().map(Vec::len).sum();
     let mut all = vec![block(1, 0, &[]); (length - 8 - used) / 4];
     all.extend(blocks);
@@ -63,7 +63,7 @@ fn measured_last(length: usize) -> Vec<u8> {
 
 /// Blocks 18 of different sources, the last `measured` of which have a block 14 each, amid
 /// the packet. The odd factor keeps the sources different and puts them out of order.
-fn many_sources(length: usize, measured: usize) -> Vec<u8> {
+pub fn many_sources(length: usize, measured: usize) -> Vec<u8> {
     let source = |number: usize| (number as u32).wrapping_mul(0x9E37_79B1);
     let count = (length - 8 - 32 * measured) / 12;
     let mut blocks: Vec<_> = (0..count)

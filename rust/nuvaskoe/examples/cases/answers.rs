@@ -24,6 +24,7 @@ pub fn answer(case: &Case) -> Option<String> {
         }),
         "body" => body(n[0], data),
         "list" => list(n[0], data),
+        "compare" => compare(n[0], data.split_at(n[1] as usize)),
         "alone" => {
             let (block_type, specific) = (u8::try_from(n[0]).ok()?, u8::try_from(n[1]).ok()?);
             shown::line(0, &block::read(block_type, specific, data), data.len())
@@ -71,6 +72,12 @@ fn list(entries: u32, packet: &[u8]) -> String {
     let mut lent = vec![u32::from(HELD); entries as usize];
     let answer = packet::list(packet, &mut lent);
     shown::or_refused(answer, |written| format!("entries {written}")) + &shown::table(&lent)
+}
+
+fn compare(numbers: u32, (first, second): (&[u8], &[u8])) -> String {
+    let mut lent = vec![u32::from(HELD); numbers as usize];
+    let answer = packet::compare(first, second, &mut lent);
+    shown::or_refused(answer, |count| format!("differences {count}")) + &shown::numbers(&lent)
 }
 
 fn batches(word: &str, n: &[u32], trace: &[u8]) -> String {

@@ -3,21 +3,24 @@
 /// The most bytes, packets or entries of a case: the bytes of the longest packet.
 const MOST: u32 = 262_144;
 
-/// What follows the numbers. The last number is the size of bytes and of a trace.
+/// What follows the numbers. The last number is the size of bytes and of a trace; the last two
+/// are those of two packets, which a space parts.
 #[derive(Clone, Copy, PartialEq)]
 enum Data {
     Nothing,
     Bytes,
+    Pair,
     Trace,
     Text,
 }
 
 /// Each word, how many numbers it takes, which of them are sizes, and its data.
-const WORDS: [(&str, usize, &[usize], Data); 22] = [
+const WORDS: [(&str, usize, &[usize], Data); 23] = [
     ("read", 1, &[0], Data::Bytes),
     ("block", 2, &[1], Data::Bytes),
     ("body", 2, &[1], Data::Bytes),
     ("list", 2, &[0, 1], Data::Bytes),
+    ("compare", 3, &[0, 1, 2], Data::Pair),
     ("alone", 3, &[2], Data::Bytes),
     ("new", 2, &[1], Data::Nothing),
     ("add14", 8, &[7], Data::Bytes),
@@ -64,27 +67,38 @@ impl Case {
             return None;
         }
         let text = rest.unwrap_or_default();
-        let mut data = match kind {
-            Data::Nothing | Data::Text => text.to_vec(),
-            Data::Bytes => hexadecimal(text)?,
-            Data::Trace => text
-                .iter()
-                .map(|digit| decimal_digit(*digit))
-                .collect::<Option<_>>()?,
-        };
-        if matches!(kind, Data::Bytes | Data::Trace) {
-            let size = *numbers.last()? as usize;
-            if size < data.len() {
-                return None;
+        let data = match (kind, &numbers[..]) {
+            (Data::Bytes, [.., size]) => sized(hexadecimal(text)?, *size)?,
+            (Data::Trace, [.., size]) => sized(trace(text)?, *size)?,
+            (Data::Pair, [.., size, other]) => {
+                let (first, second) = two(text)?;
+                let (first, second) = (hexadecimal(first)?, hexadecimal(second)?);
+                [sized(first, *size)?, sized(second, *other)?].concat()
             }
-            data.resize(size, 0);
-        }
+            _ => text.to_vec(),
+        };
         Some(Case {
             word,
             numbers,
             data,
         })
     }
+}
+
+/// Two texts, of which both or the second may be left out.
+fn two(text: &[u8]) -> Option<(&[u8], &[u8])> {
+    match cut(text) {
+        (front, None) => Some((front, &[])),
+        (front, Some(back)) => (!front.is_empty() && !back.is_empty()).then_some((front, back)),
+    }
+}
+
+/// Data of this size: zero bytes follow what there is, which may not be more.
+fn sized(mut data: Vec<u8>, size: u32) -> Option<Vec<u8>> {
+    let size = size as usize;
+    let fits = data.len() <= size;
+    data.resize(size, 0);
+    fits.then_some(data)
 }
 
 /// The text before the first space, and what follows it.
@@ -106,6 +120,11 @@ fn decimal(digits: &[u8]) -> Option<u32> {
         number = number.checked_mul(10)?.checked_add(digit)?;
     }
     (!digits.is_empty()).then_some(number)
+}
+
+/// A digit a packet.
+fn trace(text: &[u8]) -> Option<Vec<u8>> {
+    text.iter().map(|digit| decimal_digit(*digit)).collect()
 }
 
 /// Two lower-case digits a byte.

@@ -4,9 +4,10 @@ use nuvaskoe::block::{Block, Reading, Verdict};
 use nuvaskoe::figures::Figures;
 use nuvaskoe::Refusal;
 
-/// The most bytes or marks, and the most entries, that are shown.
+/// The most bytes or marks, the most entries, and the most numbers of differences, that are shown.
 const BYTES: usize = 64;
 const ENTRIES: usize = 16;
+const NUMBERS: usize = 100;
 
 /// An answer, or the refusal alone.
 pub fn or_refused<T>(answer: Result<T, Refusal>, text: impl FnOnce(T) -> String) -> String {
@@ -27,8 +28,16 @@ pub fn plan(lent: &[u8]) -> String {
 }
 
 pub fn table(lent: &[u32]) -> String {
-    let front: Vec<_> = lent.iter().take(ENTRIES).map(u32::to_string).collect();
-    labelled("table", front.join(" "))
+    labelled("table", decimals(lent, ENTRIES))
+}
+
+pub fn numbers(lent: &[u32]) -> String {
+    labelled("numbers", decimals(lent, NUMBERS))
+}
+
+fn decimals(lent: &[u32], most: usize) -> String {
+    let front: Vec<_> = lent.iter().take(most).map(u32::to_string).collect();
+    front.join(" ")
 }
 
 /// The word ends the line where nothing follows it.

@@ -13,10 +13,12 @@ pub mod boundary;
 pub mod calls;
 pub mod cards;
 pub mod compare;
+pub mod differences;
 pub mod drawn_tallies;
 pub mod measuring;
 pub mod numbers;
 pub mod packets;
+pub mod pairs;
 pub mod raw;
 pub mod tallies;
 

@@ -39,6 +39,14 @@ pub fn packet_list(packet: &[u8], out: &mut [u32]) -> Written {
     unsafe { boundary::nuvaskoe_packet_list(start, length, out.as_mut_ptr(), out.len()) }
 }
 
+pub fn packet_compare(first: &[u8], second: &[u8], out: &mut [u32]) -> Compared {
+    let (start, length) = (first.as_ptr(), first.len());
+    let (other, other_length) = (second.as_ptr(), second.len());
+    let (out, room) = (out.as_mut_ptr(), out.len());
+    // SAFETY: as above.
+    unsafe { boundary::nuvaskoe_packet_compare(start, length, other, other_length, out, room) }
+}
+
 pub fn block_read(block_type: u8, specific: u8, body: &[u8]) -> Block {
     // SAFETY: as above.
     unsafe { boundary::nuvaskoe_block_read(block_type, specific, body.as_ptr(), body.len()) }

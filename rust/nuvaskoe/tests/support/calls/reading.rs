@@ -1,9 +1,11 @@
-//! Packets and blocks read.
+//! Packets and blocks read, and packets compared.
 
 use super::{after_packet, call, number, Call, PACKET};
 use crate::support::{
     compare::{alone_both, block_both, body_both, list_both, read_both},
+    differences::{compare_both, enough, needed},
     packets::{any_body, any_packet},
+    pairs::any_pair,
     Random,
 };
 
@@ -30,6 +32,12 @@ pub fn calls() -> Vec<Call> {
             &after_packet(&[8]),
             with_entries,
             |(packet, entries)| number(&list_both(packet, *entries).0),
+        ),
+        call(
+            "packet_compare",
+            &after_packet(&[8]),
+            with_numbers,
+            |(first, second, numbers)| number(&compare_both(first, second, *numbers).0),
         ),
         call(
             "block_read",
@@ -66,6 +74,24 @@ fn with_entries(random: &mut Random) -> (Vec<u8>, usize) {
         _ => needed,
     };
     (packet, entries)
+}
+
+/// Two packets, and numbers for the list of their differences: as many as it takes, so many
+/// that they are always enough, a few more, too few, or none.
+fn with_numbers(random: &mut Random) -> (Vec<u8>, Vec<u8>, usize) {
+    let (first, second) = any_pair(random);
+    let needed = needed(&first, &second);
+    let numbers = match random.below(16) {
+        0 => random.below(needed.max(1)),
+        1 => needed.saturating_sub(1),
+        2 => needed.saturating_sub(5),
+        3 => 0,
+        4 | 5 => needed + 1 + random.below(9),
+        6 | 7 => enough(&first, &second).saturating_sub(1).max(needed),
+        8..=11 => enough(&first, &second),
+        _ => needed,
+    };
+    (first, second, numbers)
 }
 
 /// How many blocks a packet has; some for one that is refused.
