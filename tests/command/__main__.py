@@ -1,6 +1,6 @@
 """Runs target/bin/nuvaskoe on files as a person would: each job on good and bad input, each exit status.
 
-What it answers is compared with document 01 computed a second time (document01.py), its lines with the program `listing`, and
+What it answers is compared with the papers computed a second time (document01.py), its lines with the program `listing`, and
 its JSON is read by python's parser. Run as `python3 tests/command` in the repository's root after `make command` and
 `rt check listing`. Prints one line; exit status 1 with the first thing that is wrong.
 """
@@ -13,15 +13,17 @@ sys.dont_write_bytecode = True  # a run leaves no files in the tree
 sys.path.append(str(pathlib.Path(__file__).resolve().parent.parent))
 import cards
 import packets
+import pairs
 import traces
 import usage
 from run import Run
 
 # Every function of these that is named so.
-CHECKS = [check for module in (traces, cards, packets, usage) for name, check in vars(module).items() if name.startswith("check_")]
+MODULES = (traces, cards, packets, pairs, usage)
+CHECKS = [check for module in MODULES for name, check in vars(module).items() if name.startswith("check_")]
 # The names of JSON that are none of the header's: what was read, lists of answers, and what has no name in C.
 OWN_NAMES = {"file", "form", "list", "cards", "explained", "lost", "discarded", "marked", "offset", "kind", "meaning", "advice",
-             "files", "error"}
+             "files", "error", "field", "name", "first_block", "second_block"}
 
 
 def main():

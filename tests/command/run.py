@@ -24,9 +24,11 @@ class Run:
         self.what = f"nuvaskoe {' '.join(map(repr, words))}: status {self.status}, {self.told}"
         assert self.status in (0, 1, 2), self.what
         assert "panicked" not in self.told, self.what
-        assert self.status == 0 or self.told, self.what
-        if self.status == 1:
+        if self.status == 1 and words[0] == "compare":  # differences, which are no failure
+            assert self.out and not self.told, self.what
+        elif self.status == 1:
             assert self.told.startswith("refused ") and "  what to do: " in self.told, self.what
+        assert self.status != 2 or self.told, self.what
 
     def text(self):
         assert self.status == 0, self.what

@@ -22,8 +22,8 @@ def check_usage(_):
     Run("card").wrong("card what?")
     Run("--json", "list").wrong("the job comes first")
     Run("help", "figures", "x").wrong('no job "figures x"')
-    for job, name in [("list", "FILE"), ("card read", "TEXT"), ("figures", "TRACE"), ("loss", "TRACE"), ("plan", "TRACE"),
-                      ("report", "TRACE"), ("explain", "N")]:
+    for job, name in [("list", "FILE"), ("compare", "A or B"), ("card read", "TEXT"), ("figures", "TRACE"), ("loss", "TRACE"),
+                      ("plan", "TRACE"), ("report", "TRACE"), ("explain", "N")]:
         Run(*job.split()).wrong(f"{name} is missing", f"usage: nuvaskoe {job}")
         assert Run(*job.split(), "--help").text() == Run("help", *job.split()).text()
         Run(*job.split(), "--none", GOOD).wrong("there is no option --none")
@@ -50,13 +50,16 @@ def check_options(_):
     Run("figures", "--card", CARD, GOOD, GOOD).wrong("too many")
     Run("figures", "--card", "-", "-").wrong("once")
     Run("list", "-", "-").wrong("once")
+    Run("compare", "-", "-").wrong("once")
+    Run("compare", "-").wrong("A or B is missing")
+    Run("compare", GOOD, GOOD, GOOD).wrong("too many")
     Run("plan", "--card", CARD, GOOD, "-o", "-", "--json").wrong("standard output")
     assert Run("plan", "--card", CARD, "--", GOOD).status == 0
 
 
 def check_unreadable(folder):
     """Files that cannot be read."""
-    for job in (["list"], ["figures", "--card", CARD], ["plan", "--card", CARD]):
+    for job in (["list"], ["compare", SAMPLES / "p12.xr"], ["figures", "--card", CARD], ["plan", "--card", CARD]):
         for name in (folder, folder / "not there", b"\xff\xfe", "", "a\nb"):
             run = Run(*job, name)
             assert run.status == 2 and "os error" in run.told, run.what
@@ -176,14 +179,14 @@ def check_pages(folder):
     script = folder / "completion"
     script.write_text(Run("help", "--completion").text())
     names = re.findall(r"^  (\S+(?: \S+)?)  ", Run("help").text().split("\n\n")[2], re.M)
-    assert re.findall(r"^\.SS (.*)$", page, re.M) == names and len(names) == 9, (names, page)
+    assert re.findall(r"^\.SS (.*)$", page, re.M) == names and len(names) == 10, (names, page)
     assert re.findall(r"^\.B (D?\d+)$", page, re.M) == [*map(str, range(1, 18)), "D1", "D2", "D3", "D4"], page
     if shutil.which("groff"):
         shown = subprocess.run(["groff", "-man", "-ww", "-Tascii"], input=page, capture_output=True, text=True, check=True)
         assert shown.stderr == "" and r"$ printf '\200\317\0\4" in shown.stdout, shown
     for typed, completed in [("fi", "figures"), ("card m", "make"), ("card ''", "read make"), ("plan -", "--card --gmin"),
                              ("card make --s", "--spacing"), ("plan ''", ""), ("list x ''", ""), ("help lo", "loss"), ("zz", ""),
-                             ("figures --form ''", "bytes digits")]:
+                             ("figures --form ''", "bytes digits"), ("com", "compare"), ("compare a -", "--json")]:
         line = f"set -eu; source {script}; COMP_WORDS=(nuvaskoe {typed}); COMP_CWORD=$((${{#COMP_WORDS[@]}} - 1)); _nuvaskoe"
         told = subprocess.run(["bash", "-c", f"{line}; echo ${{COMPREPLY[@]-}}"], capture_output=True, text=True, check=True).stdout
         assert told.startswith(completed) and (completed or told == "\n"), (typed, told)
@@ -194,11 +197,11 @@ def check_anything(folder):
     rng = random.Random(5)
     path = folder / "anything"
     packet = shutil.copy(SAMPLES / "week-1.xr", folder)
-    some = ["list", "card", "read", "make", "figures", "loss", "plan", "report", "explain", "help", "--json", "--form", "bytes",
-            "digits", "--card", CARD, EXCHANGED, "--gmin", "--batch", "--threshold", "--spacing", "-o", "--", "-", "", "--flag",
-            "0", "1", "3", "99999", "-h", "--version", "é", b"\xff", "--gmin=2", "--batch=3", "--threshold=1", "--spacing=400",
-            str(path), packet]
+    some = ["list", "compare", "card", "read", "make", "figures", "loss", "plan", "report", "explain", "help", "--json", "--form",
+            "bytes", "digits", "--card", CARD, EXCHANGED, "--gmin", "--batch", "--threshold", "--spacing", "-o", "--", "-", "",
+            "--flag", "0", "1", "3", "99999", "-h", "--version", "é", b"\xff", "--gmin=2", "--batch=3", "--threshold=1",
+            "--spacing=400", str(path), packet]
     for _ in range(1500):
         path.write_bytes(rng.choice([rng.randbytes(rng.randrange(40)), bytes(rng.choices([0, 1, 2, 3, 48, 49, 10], k=30))]))
-        jobs = [["list"], ["card", "read"], ["figures"], ["loss"], ["plan"], ["report"], ["explain"], []]
+        jobs = [["list"], ["compare"], ["card", "read"], ["figures"], ["loss"], ["plan"], ["report"], ["explain"], []]
         Run(*rng.choice(jobs), *rng.choices(some, k=rng.randrange(7)), data=rng.randbytes(20), cwd=folder)

@@ -28,6 +28,8 @@ pub struct One {
     pub numbers: Object,
     /// The result of a job that makes a file, and where `-o` puts it.
     pub bytes: Option<(OsString, Vec<u8>)>,
+    /// The exit status: 0, or 1 for the differences of two packets.
+    pub status: u8,
 }
 
 /// The answer of one input of several.
@@ -68,6 +70,8 @@ pub enum Failure {
         /// What was refused, in a line.
         what: String,
     },
+    /// The library refused one of two packets. Status 1 says there that they differ.
+    OneOfTwo { refusal: Refusal, file: OsString },
     /// The arguments are no job.
     Usage(String),
     /// A file cannot be read or written.
@@ -92,6 +96,7 @@ impl Failure {
     pub fn status(&self) -> u8 {
         match self {
             Failure::Refused { .. } => 1,
+            Failure::OneOfTwo { .. } => 2,
             Failure::Usage(_) | Failure::File(_) | Failure::TooLong { .. } => 2,
         }
     }
@@ -100,6 +105,10 @@ impl Failure {
     pub fn numbers(&self) -> Object {
         match self {
             Failure::Refused { refusal, .. } => refusal_of(refusal.number(), refusal.place),
+            Failure::OneOfTwo { refusal, file } => {
+                let file = object([("file", file.to_string_lossy().as_ref().into())]);
+                file.and(refusal_of(refusal.number(), refusal.place))
+            }
             Failure::Usage(words) | Failure::File(words) => {
                 object([("error", words.as_str().into())])
             }
@@ -111,20 +120,24 @@ impl Failure {
 impl fmt::Display for Failure {
     fn fmt(&self, f: &mut fmt::Formatter<'_>) -> fmt::Result {
         match self {
-            Failure::Refused { refusal, what } => {
-                let (number, place) = (refusal.number(), refusal.place);
-                let (meaning, advice) = (refusal.kind.meaning(), refusal.kind.advice());
-                writeln!(f, "refused {number} at {place}")?;
-                writeln!(f, "  {what}")?;
-                writeln!(f, "  {meaning}")?;
-                writeln!(f, "  what to do: {advice}")
-            }
+            Failure::Refused { refusal, what } => in_words(refusal, what, f),
+            Failure::OneOfTwo { refusal, file } => in_words(refusal, &shown(file), f),
             Failure::Usage(words) | Failure::File(words) => writeln!(f, "nuvaskoe: {words}"),
             Failure::TooLong { name, most } => {
                 writeln!(f, "nuvaskoe: {name}: too long, over {most} bytes")
             }
         }
     }
+}
+
+/// A refusal of this, what it means and what to do.
+fn in_words(refusal: &Refusal, what: &str, f: &mut fmt::Formatter<'_>) -> fmt::Result {
+    let (number, place) = (refusal.number(), refusal.place);
+    let (meaning, advice) = (refusal.kind.meaning(), refusal.kind.advice());
+    writeln!(f, "refused {number} at {place}")?;
+    writeln!(f, "  {what}")?;
+    writeln!(f, "  {meaning}")?;
+    writeln!(f, "  what to do: {advice}")
 }
 
 /// For scripts: no refusal.

@@ -70,7 +70,8 @@ or the refusal is one object on standard output, by the names of nuvaskoe.h.
 ";
 pub const STATUS: &str = "\
 The exit status is 0 for an answer, 1 for a refusal, and 2 for wrong usage or a
-file that cannot be read or written; of several inputs the highest counts.
+file that cannot be read or written; of several inputs the highest counts. The
+job `compare` has 1 for differences, and 2 for a refusal.
 ";
 
 /// The page of a job, asked for by `--help`.

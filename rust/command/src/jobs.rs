@@ -1,6 +1,7 @@
 //! The jobs, each a file: what it takes, what help says of it, and what does it.
 
 pub mod card;
+mod compare;
 mod explain;
 mod figures;
 mod list;
@@ -36,8 +37,9 @@ pub struct Job {
 }
 
 /// All jobs, in the order of help.
-pub static JOBS: [&Job; 9] = [
+pub static JOBS: [&Job; 10] = [
     &list::LIST,
+    &compare::COMPARE,
     &card::READ,
     &card::MAKE,
     &figures::FIGURES,

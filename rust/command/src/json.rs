@@ -25,6 +25,11 @@ impl Object {
         self.0.extend(further.0);
         self
     }
+
+    /// The names of its members.
+    pub fn names(&self) -> impl Iterator<Item = &'static str> + '_ {
+        self.0.iter().map(|(name, _)| *name)
+    }
 }
 
 impl From<Object> for Value {

@@ -1,9 +1,11 @@
-//! A packet in document 01's lines, and in JSON by the names of `nuvaskoe.h`.
+//! A packet in document 01's lines, and in JSON by the names of `nuvaskoe.h`; what the lines call
+//! its blocks and their fields.
 
 use crate::json::{object, Object};
 use nuvaskoe::{
     block::{Block, TransportStream, Verdict},
     packet::{self, PacketBlock},
+    values::{Figure, Rate},
     Refusal,
 };
 
@@ -58,8 +60,49 @@ fn line(block: &PacketBlock<'_>) -> String {
     }
 }
 
+/// What a block is: the first word of its line where it is typed, and the line itself where not.
+pub fn kind(block: &PacketBlock<'_>) -> String {
+    let line = line(block);
+    match (block.reading.verdict, line.split_once(' ')) {
+        (Verdict::Typed(_), Some((kind, _))) => kind.into(),
+        _ => line,
+    }
+}
+
+/// The name of a typed block's field, by its number in a difference. The packets that a block 241
+/// covers are no field there.
+pub fn name(block: &PacketBlock<'_>, field: usize) -> Option<&'static str> {
+    let fields = fields(&block.reading.verdict);
+    let mut names = fields.names().filter(|name| *name != "packets");
+    names.nth(field)
+}
+
+/// The word that stands before the field of this name in a line; the eight counts have none.
+pub fn word(name: &'static str) -> &'static str {
+    match name {
+        "extended_first" => "efirst",
+        "extended_last" => "elast",
+        "flag" => "i",
+        "burst_rate" => "burst",
+        "gap_rate" => "gap",
+        "burst_mean" => "mean",
+        "burst_variance" => "var",
+        other => other,
+    }
+}
+
+/// The number of the field of this name as it stands in a line.
+pub fn shown(name: &str, number: u32) -> String {
+    match (name, u16::try_from(number)) {
+        ("source", _) => format!("{number:08x}"),
+        ("burst_rate" | "gap_rate", Ok(rate)) => Rate(rate).to_string(),
+        ("burst_mean" | "burst_variance", Ok(figure)) => Figure(figure).to_string(),
+        _ => number.to_string(),
+    }
+}
+
 /// A block as `nuvaskoe_block`, with its offset and the length of its body.
-fn block_numbers(block: &PacketBlock<'_>) -> Object {
+pub fn block_numbers(block: &PacketBlock<'_>) -> Object {
     object([
         ("offset", block.offset.into()),
         ("length", block.body.len().into()),

@@ -2,7 +2,8 @@
 //!
 //! Nothing that a figure depends on is computed here. A job (`jobs`) takes its arguments and ends with an [`Answer`], in
 //! words for people or in JSON for scripts, or with a [`Failure`]; this file alone writes them.
-//! Exit status: 0 an answer, 1 refused by the library, 2 wrong usage or a file that cannot be read or written.
+//! Exit status: 0 an answer, 1 refused by the library, 2 wrong usage or a file that cannot be read or written. Of the job
+//! `compare` 1 is an answer with differences, and 2 a refusal too.
 #![forbid(unsafe_code)]
 
 mod answer;
@@ -25,7 +26,7 @@ use std::{
     process::ExitCode,
 };
 
-/// That of a failure; an answer has 0.
+/// That of a failure or an answer.
 type Status = u8;
 
 fn main() -> ExitCode {
@@ -45,7 +46,8 @@ fn finish(answer: Result<Answer, Failure>, json: bool) -> Result<Status, Status>
         Ok(Answer::Several { name, parts }) => finish_several(name, parts, json),
         Err(failure) => {
             let status = fail(&failure);
-            if let (Failure::Refused { .. }, true) = (&failure, json) {
+            let refusal = matches!(failure, Failure::Refused { .. } | Failure::OneOfTwo { .. });
+            if refusal && json {
                 put(format!("{}\n", failure.numbers()).as_bytes(), status)?;
             }
             Ok(status)
@@ -62,9 +64,9 @@ fn finish_one(one: One, json: bool) -> Result<Status, Status> {
     match one.bytes {
         // Standard output is the result's.
         Some((to, bytes)) if to == "-" => {
-            put(&bytes, 0)?;
+            put(&bytes, one.status)?;
             tell(&said);
-            return Ok(0);
+            return Ok(one.status);
         }
         Some((to, bytes)) => {
             if let Err(failure) = output::write(&to, &bytes) {
@@ -73,8 +75,8 @@ fn finish_one(one: One, json: bool) -> Result<Status, Status> {
         }
         None => {}
     }
-    put(said.as_bytes(), 0)?;
-    Ok(0)
+    put(said.as_bytes(), one.status)?;
+    Ok(one.status)
 }
 
 /// Each part as it is found, and what is wrong with it behind it. The highest status counts.

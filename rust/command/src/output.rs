@@ -68,6 +68,7 @@ pub fn with(arguments: &Arguments, one: One, bytes: Vec<u8>) -> One {
         words: format!("{}  {size} bytes to {place}\n", one.words),
         numbers: one.numbers.and(object([("size", size.into())])),
         bytes: Some((to.into(), bytes)),
+        ..one
     }
 }
 

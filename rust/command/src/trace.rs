@@ -139,7 +139,7 @@ impl Trace {
         One {
             words: format!("{self}\n{settings}\n\n{words}"),
             numbers: head.and(not_refused()).and(numbers),
-            bytes: None,
+            ..One::default()
         }
     }
 

@@ -133,7 +133,7 @@ fn make(arguments: &Arguments) -> Result<Answer<'_>, Failure> {
     Ok(Answer::One(One {
         words: format!("{card}\n"),
         numbers: numbers.and(not_refused()).and(written),
-        bytes: None,
+        ..One::default()
     }))
 }
 

@@ -45,7 +45,7 @@ fn run(arguments: &Arguments) -> Result<Answer<'_>, Failure> {
     Ok(Answer::One(One {
         words,
         numbers: object([("explained", explained.into_iter().collect())]),
-        bytes: None,
+        ..One::default()
     }))
 }
 

@@ -62,7 +62,7 @@ fn part(name: &OsStr, json: bool) -> Part {
         Ok((lines, numbers)) => Part::new(json, lines, file.and(not_refused()).and(numbers), None),
         Err(failure) => {
             let line = match &failure {
-                Failure::Refused { refusal, .. } => {
+                Failure::Refused { refusal, .. } | Failure::OneOfTwo { refusal, .. } => {
                     format!("refused {} at {}\n", refusal.number(), refusal.place)
                 }
                 Failure::TooLong { .. } => "too long\n".into(),
