@@ -18,7 +18,7 @@ use Rattle.block.specs.declared.Measures.the-variants.{Source, Nothing}
 use Rattle.frame.specs.Frames.{Entry}
 use Rattle.packet.specs.Blocks.{readAlone, names, measures, measured}
 use Rattle.packet.specs.Steps.{blocksOf}
-use Rattle.verdict.specs.Sources.{member, gatheredCount, gatheredTable, Grown, Table}
+use Rattle.verdict.specs.Sources.{member, gatheredCount, gatheredTable, Table}
 
 member-append : (x : ℕ) (s t : List ℕ) → member x (s ++ t) ≡ (member x s || member x t)
 unfolding member
@@ -57,6 +57,13 @@ by-times x (y ∷ l) = go (eqb y x) (by-times x l)
 
 pub permuted-member : (old new : List ℕ) → Permuted old new → (x : ℕ) → member x new ≡ member x old
 permuted-member old new p x = by-times x new ∙ ap some (p .same x) ∙ sym (by-times x old)
+
+-- the first r numbers of `new` are the first k of `old`, and the source that a block measures, if any
+pub record Grown (m : Measures) (old new : List ℕ) (k r : ℕ) : Type 0 where
+  pub same : (x : ℕ) → member x (take r new) ≡ (names m x || member x (take k old))
+  pub few : r ≤ k + 1
+  pub rest : drop (k + 1) new ≡ drop (k + 1) old
+  pub long : length new ≡ length old
 
 -- a table that grows by the source of one block, where it measures one
 grown : (old : List ℕ) (k x : ℕ) → k < length old → Grown (Source x) old (set old k x) k (k + 1)

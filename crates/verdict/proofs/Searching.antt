@@ -1,8 +1,7 @@
--- A search: its start, one turn by quarters, one number less, and the end. It stays inside any table, and in a sorted one it finds. Assumes
--- nothing.
+-- A search: its start, one turn by quarters, and the end. It stays inside any table, and in a sorted one it finds. Assumes nothing.
 use Prim.Native.Nat.{ℕ, _+_, _-_, _*_, _/_, _<_, _≤_}
 use mathlib.Core.Path.{_≡_, sym, ap, _∙_}
-use mathlib.Core.Bool.{Bool, true, false, cond}
+use mathlib.Core.Bool.{Bool, true, false, cond, _||_}
 use mathlib.Core.List.{List}
 use native.Mathlib.Omega.{arith}
 use native.Mathlib.Nat.{mul-comm, mul-le-mul}
@@ -57,20 +56,6 @@ narrowed table x low size step left h some fits on =
     rest : Sorted table → (i : ℕ) → low + step + left ≤ i → i < length table → Dec (i < low + size) → x < getD table i 0
     rest sorted i g l (yes inside) = on sorted .1 i g inside l
     rest sorted i g l (no past) = h .among sorted .above i (omega arith) l
-
--- one number less
-pub search-less : (table : List ℕ) (x low size count : ℕ) → Search table x low size → 1 < size → count ≡ cond (leb (getD table (low + 1) 0) x) 1 0 →
-    Search table x (low + count) (size - 1)
-search-less table x low size count h more is = go (decLe (getD table (low + 1) 0) x)
-  where
-    go : Dec (getD table (low + 1) 0 ≤ x) → Search table x (low + count) (size - 1)
-    go (yes le) =
-        let one : count ≡ 1 = is ∙ rw (le-leb (getD table (low + 1) 0) x le) in
-        rw one (narrowed table x low size 1 (size - 1) h (omega arith) (omega arith) (λ sorted. (λ l. le, λ i g inside l. absurd (omega arith))))
-    go (no gt) =
-        let none : count ≡ 0 = is ∙ rw (lt-leb (getD table (low + 1) 0) x (omega arith)) in
-        rw none (narrowed table x low size 0 (size - 1) h (omega arith) (omega arith)
-        (λ sorted. (λ l. absurd (omega arith), λ i g inside l. let order = sorted (low + 1) i (omega arith) l in omega arith)))
 
 -- one quarter, by three numbers of the table
 module _ (table : List ℕ) (x low size fourth first second third : ℕ) (h : Search table x low size) (more : 3 < size) (q : fourth ≡ size / 4)
@@ -133,25 +118,44 @@ module _ (table : List ℕ) (x low size fourth first second third : ℕ) (h : Se
       let fits = quarter-fits in
       narrowed table x low size (fourth * (first + second + third)) (size - 3 * fourth) h (omega arith) (omega arith) on
 
--- one number is left
-pub search-end : (table : List ℕ) (x low size : ℕ) → Search table x low size → size ≤ 1 → Sorted table →
-    eqb (getD table low 0) x ≡ member x table
-search-end table x low size h one sorted = go (ℕ-discrete (getD table low 0) x)
+-- three numbers or fewer are left: the first, the middle and the last are all of them
+pub search-end : (table : List ℕ) (x low size : ℕ) → Search table x low size → size ≤ 3 → Sorted table →
+    ((eqb (getD table low 0) x || eqb (getD table (low + size / 2) 0) x) || eqb (getD table (low + size - 1) 0) x) ≡ member x table
+search-end table x low size h few sorted = go (ℕ-discrete (getD table low 0) x) (ℕ-discrete (getD table (low + size / 2) 0) x) (ℕ-discrete (getD table (low + size - 1) 0) x)
   where
-    inside : low < length table
-    inside = let some = h .some in let within = h .within in omega arith
+    some : 0 < size
+    some = h .some
 
-    apart : (getD table low 0 ≡ x → ⊥) → (i : ℕ) → i < length table → getD table i 0 ≡ x → Dec (i < low) → Dec (i ≡ low) → ⊥
-    apart ne i l e (yes before) d =
-        let order = sorted i low (omega arith) inside in
+    within : low + size ≤ length table
+    within = h .within
+
+    at : (i j : ℕ) → i ≡ j → getD table i 0 ≡ x → getD table j 0 ≡ x
+    at i j same e = ap (λ (n : ℕ). getD table n 0) (sym same) ∙ e
+
+    apart : (getD table low 0 ≡ x → ⊥) → (getD table (low + size / 2) 0 ≡ x → ⊥) → (getD table (low + size - 1) 0 ≡ x → ⊥) →
+        (i : ℕ) → i < length table → getD table i 0 ≡ x → Dec (i < low) → Dec (i < low + size) → Dec (i ≡ low) → Dec (i ≡ low + size / 2) → ⊥
+    apart p q r i l e (yes before) inside first middle =
+        let s = some in
+        let w = within in
+        let order = sorted i low (omega arith) (omega arith) in
         let below = h .among sorted .below (omega arith) in
-        ne (omega arith)
-    apart ne i l e (no after) (yes here) = ne (ap (λ (n : ℕ). getD table n 0) (sym here) ∙ e)
-    apart ne i l e (no after) (no other) = let above = h .among sorted .above i (omega arith) l in omega arith
+        p (omega arith)
+    apart p q r i l e (no after) (no past) first middle = let above = h .among sorted .above i (omega arith) l in omega arith
+    apart p q r i l e (no after) (yes inside) (yes first) middle = p (at i low first e)
+    apart p q r i l e (no after) (yes inside) (no other) (yes middle) = q (at i (low + size / 2) middle e)
+    apart p q r i l e (no after) (yes inside) (no other) (no neither) = let s = some in r (at i (low + size - 1) (omega (arith, few)) e)
 
-    go : Dec (getD table low 0 ≡ x) → eqb (getD table low 0) x ≡ member x table
-    go (yes e) = eq-eqb (getD table low 0) x e ∙ sym (somewhere table x low inside e)
-    go (no ne) = ne-eqb (getD table low 0) x ne ∙ sym (nowhere table x (λ i l e. apart ne i l e (decLt i low) (ℕ-discrete i low)))
+    go : Dec (getD table low 0 ≡ x) → Dec (getD table (low + size / 2) 0 ≡ x) → Dec (getD table (low + size - 1) 0 ≡ x) →
+        ((eqb (getD table low 0) x || eqb (getD table (low + size / 2) 0) x) || eqb (getD table (low + size - 1) 0) x) ≡ member x table
+    go (yes p) q r = rw (eq-eqb (getD table low 0) x p) (sym (somewhere table x low (let s = some in let w = within in omega arith) p))
+    go (no p) (yes q) r =
+        rw (ne-eqb (getD table low 0) x p, eq-eqb (getD table (low + size / 2) 0) x q) (sym (somewhere table x (low + size / 2) (let s = some in let w = within in omega arith) q))
+    go (no p) (no q) (yes r) =
+        rw (ne-eqb (getD table low 0) x p, ne-eqb (getD table (low + size / 2) 0) x q, eq-eqb (getD table (low + size - 1) 0) x r)
+        (sym (somewhere table x (low + size - 1) (let s = some in let w = within in omega arith) r))
+    go (no p) (no q) (no r) =
+        rw (ne-eqb (getD table low 0) x p, ne-eqb (getD table (low + size / 2) 0) x q, ne-eqb (getD table (low + size - 1) 0) x r)
+        (sym (nowhere table x (λ i l e. apart p q r i l e (decLt i low) (decLt i (low + size)) (ℕ-discrete i low) (ℕ-discrete i (low + size / 2)))))
 
 -- an empty table
 pub none-held : (table : List ℕ) (x : ℕ) → length table ≡ 0 → false ≡ member x table

@@ -6,7 +6,7 @@ use mathlib.Core.Path.{_≡_}
 use mathlib.Core.Bool.{Bool, true, false, cond, _||_}
 use mathlib.Core.List.{List, [], _∷_}
 use lib.Dec.{eqb, leb}
-use lib.ListN.{length, take, drop, set}
+use lib.ListN.{length, take, set}
 use Rattle.sorting.specs.Order.{Sorted}
 use Rattle.block.specs.Reading.{needsOf}
 use Rattle.block.specs.declared.BlockRead.{BlockRead}
@@ -15,7 +15,7 @@ use Rattle.block.specs.declared.Needs.{Needs}
 use Rattle.block.specs.declared.Needs.the-variants.{Nothing, MeasurementOf}
 use Rattle.block.specs.declared.Measures.{Measures}
 use Rattle.block.specs.declared.Measures.the-variants.{Source, Nothing as Measures·Nothing}
-use Rattle.packet.specs.Blocks.{names, measured}
+use Rattle.packet.specs.Blocks.{measured}
 use Rattle.packet.specs.Steps.{blocksOf}
 
 unfoldable pub member : ℕ → List ℕ → Bool
@@ -30,13 +30,6 @@ gatheredCount Measures·Nothing size k = k
 abbrev pub gatheredTable : Measures → List ℕ → ℕ → List ℕ
 gatheredTable (Source source) table k = cond (leb (length table) k) table (set table k source)
 gatheredTable Measures·Nothing table k = table
-
--- the first r numbers of `new` are the first k of `old`, and the source that a block measures, if any
-pub record Grown (m : Measures) (old new : List ℕ) (k r : ℕ) : Type 0 where
-  pub same : (x : ℕ) → member x (take r new) ≡ (names m x || member x (take k old))
-  pub few : r ≤ k + 1
-  pub rest : drop (k + 1) new ≡ drop (k + 1) old
-  pub long : length new ≡ length old
 
 -- the first k numbers of `table` are the measured sources of s
 pub record Table (s table : List ℕ) (k : ℕ) : Type 0 where

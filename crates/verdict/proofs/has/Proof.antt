@@ -1,83 +1,59 @@
--- `verdict::has` meets its contract: by quarters, then one number less a turn. Assumes nothing.
-use Prim.Native.Nat.{_+_, _≤_}
+-- `verdict::has` meets its contract: by quarters, and then the numbers that are left. Assumes nothing.
 use native.Mathlib.Omega.{arith}
-use lib.ListN.{getD}
-use Rattle.verdict.specs.Search.{Search}
-use Rattle.verdict.proofs.Searching.{counts, search-less, search-end, none-held}
+use Rattle.verdict.proofs.Searching.{search-end, none-held}
 use borrow.Author.Needs.{needs}
 use Rattle.verdict.proofs.has.Statement.{statement}
 use Rattle.verdict.proofs.has.Tie as tie
 
-abbrev Inv-loop : tie.InvT-loop
-Inv-loop table x low₀ size₀ low size = Search table x low size
-
-abbrev μ-loop : tie.MeasureT-loop
-μ-loop table x low₀ size₀ low size = size
-
-returns : tie.Need-returns Inv-loop μ-loop
+returns : tie.Need-returns
 returns c sorted = none-held _ _ (omega arith)
 
-quarter-requires : tie.Need-quarter-requires Inv-loop μ-loop
-quarter-requires c κs = omega arith
+quarter-requires : tie.Need-quarter-requires
+quarter-requires c κs = search needs
 
-loop-holds : tie.Need-loop-holds Inv-loop μ-loop
-loop-holds c = c .quarter .ensures .0
+mul-result : tie.Need-mul-result
+mul-result c = search needs
 
-add-at-most : tie.Need-add-at-most Inv-loop μ-loop
-add-at-most c = omega arith
+shared-slice-read-result : tie.Need-shared-slice-read-result
+shared-slice-read-result c = search needs
 
-mul-at-most : tie.Need-mul-at-most Inv-loop μ-loop
-mul-at-most c = omega arith
+add-result : tie.Need-add-result
+add-result c = search needs
 
-shared-slice-read-at-most : tie.Need-shared-slice-read-at-most Inv-loop μ-loop
-shared-slice-read-at-most c = omega arith
+mul-result-2 : tie.Need-mul-result-2
+mul-result-2 c = search needs
 
-at-most-requires : tie.Need-at-most-requires Inv-loop μ-loop
-at-most-requires c κs = search needs
+shared-slice-read-result-2 : tie.Need-shared-slice-read-result-2
+shared-slice-read-result-2 c = search needs
 
-few : (c : tie.After-at-most Inv-loop μ-loop) → c .at-most .result ≤ 1
-few c = let a = c .before .before .before .before .before .before .before .args in rw (c .at-most .ensures) (counts (getD (a .table .now) (c .before .before .before .loop .low + 1) 0) (a .x))
+add-result-2 : tie.Need-add-result-2
+add-result-2 c = search needs
 
-add-low : tie.Need-add-low Inv-loop μ-loop
-add-low c =
-    let a = c .before .before .before .loop in
-    omega (arith, a .inv .within, few c)
+sub-result : tie.Need-sub-result
+sub-result c = search needs
 
-sub-size : tie.Need-sub-size Inv-loop μ-loop
-sub-size c = omega arith
+mul-result-3 : tie.Need-mul-result-3
+mul-result-3 c = search needs
 
-loop-less : tie.Need-loop-less Inv-loop μ-loop
-loop-less c = omega arith
+shared-slice-read-result-3 : tie.Need-shared-slice-read-result-3
+shared-slice-read-result-3 c = search needs
 
-loop-again : tie.Need-loop-again Inv-loop μ-loop
-loop-again c = search-less _ _ _ _ _ (c .before .before .before .loop .inv) (omega arith) (c .at-most .ensures)
-
-mul-result : tie.Need-mul-result Inv-loop μ-loop
-mul-result c = omega arith
-
-shared-slice-read-result : tie.Need-shared-slice-read-result Inv-loop μ-loop
-shared-slice-read-result c = omega arith
-
-returns-2 : tie.Need-returns-2 Inv-loop μ-loop
-returns-2 c sorted = search-end _ _ (c .before .before .loop .low) (c .before .before .loop .size) (c .before .before .loop .inv) (omega arith) sorted
+returns-2 : tie.Need-returns-2
+returns-2 c sorted = let q = c .before .before .before .quarter in search-end _ _ (q .result .low) (q .result .size) (q .ensures .0) (q .ensures .1) sorted
 
 pub has-spec : {M : Type 1} → statement M
 has-spec =
     tie.close
     (tie.spec
-    Inv-loop
-    μ-loop
     returns
     quarter-requires
-    loop-holds
-    add-at-most
-    mul-at-most
-    shared-slice-read-at-most
-    at-most-requires
-    add-low
-    sub-size
-    loop-less
-    loop-again
     mul-result
     shared-slice-read-result
+    add-result
+    mul-result-2
+    shared-slice-read-result-2
+    add-result-2
+    sub-result
+    mul-result-3
+    shared-slice-read-result-3
     returns-2)
