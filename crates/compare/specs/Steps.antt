@@ -1,16 +1,19 @@
 -- What the private functions take: blocks by their own bytes, and sorted tables of their packets' measured sources.
 use Prim.Native.Nat.{ℕ, _+_, _*_, _≤_}
 use mathlib.Core.Path.{_≡_}
-use mathlib.Core.Bool.{Bool, true, cond}
+use mathlib.Core.Bool.{Bool, true, cond, _&&_}
 use mathlib.Core.List.{List, [], _∷_}
 use lib.Dec.{eqb}
 use lib.ListN.{length, getD, drop}
 use Rattle.wire.specs.BigEndian.{u16At}
 use Rattle.sorting.specs.Order.{Sorted}
-use Rattle.block.specs.Reading.{readBytes}
+use Rattle.block.specs.Types.{unmeasured}
+use Rattle.block.specs.Layouts.{flagIn}
+use Rattle.block.specs.Reading.{summaryGood, readBytes}
 use Rattle.frame.specs.Frames.{Entry}
 use Rattle.frame.specs.Packet.{packetOf, good}
-use Rattle.packet.specs.Blocks.{measured}
+use Rattle.packet.specs.Blocks.{measured, readAmong}
+use Rattle.verdict.specs.Verdict.{verdictOf}
 use Rattle.verdict.specs.Sources.{member, typedBy}
 use Rattle.difference.specs.declared.Difference.{Difference}
 use Rattle.difference.specs.Differences.{onlyFirst, onlySecond}
@@ -34,6 +37,21 @@ pub record SizeTyped (x y : List ℕ) : Type 0 where
   pub type : getD x 0 0 ≡ getD y 0 0
   pub first : (table : List ℕ) → typedBy table (readBytes x) ≡ true
   pub second : (table : List ℕ) → typedBy table (readBytes y) ≡ true
+
+-- a 17 or 18 of this size, with a flag and rates that reading lets through
+pub record GoodSummary (z : List ℕ) (size : ℕ) : Type 0 where
+  pub long : length z ≡ size
+  pub good : summaryGood (flagIn (getD z 1 0)) (u16At z 8) (u16At z 10) ≡ true
+
+-- two blocks of one type that wait for a measurement alone
+pub record Waiting (x y : List ℕ) : Type 0 where
+  pub type : getD x 0 0 ≡ getD y 0 0
+  pub first : verdictOf (readAmong [] (readBytes x)) ≡ unmeasured
+  pub second : verdictOf (readAmong [] (readBytes y)) ≡ unmeasured
+
+-- two blocks of one type, each typed in a packet with the sources of its table
+abbrev pub bothTyped : List ℕ → List ℕ → List ℕ → List ℕ → Bool
+bothTyped table other x y = eqb (getD x 0 0) (getD y 0 0) && (typedBy table (readBytes x) && typedBy other (readBytes y))
 
 -- a difference of this kind that has no readings
 abbrev pub whole : ℕ → ℕ → Difference

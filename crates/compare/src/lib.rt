@@ -4,20 +4,17 @@ use difference::Difference;
 use refusal::Refusal;
 use sources::Gathered;
 ghost use mathlib.Core.Path.{_≡_};
-ghost use mathlib.Core.Bool.{true, _&&_};
+ghost use mathlib.Core.Bool.{true};
 ghost use mathlib.Core.List.{[], _∷_};
-ghost use lib.Dec.{eqb};
 ghost use Prim.Native.Nat.{_≤_};
 ghost use lib.ListN.{length, getD};
 ghost use Rattle.sorting.specs.Order.{Sorted};
-ghost use Rattle.block.specs.Reading.{readBytes};
 ghost use Rattle.frame.specs.Packet.{packetOf};
-ghost use Rattle.verdict.specs.Sources.{typedBy};
 ghost use Rattle.difference.specs.Differences.{senders, where-unequal};
 ghost use Rattle.difference.specs.Numbers.{Adds};
 ghost use Rattle.compare.specs.Differences.{sameNumbers, between};
 ghost use Rattle.compare.specs.Answer.{differencesOf, compareAnswer, listAfter};
-ghost use Rattle.compare.specs.Steps.{Whole, Blocks, SizeTyped, Tables, whole, contentIn, blockDifferences, Ready, Holds, Answers};
+ghost use Rattle.compare.specs.Steps.{Whole, Blocks, SizeTyped, GoodSummary, Waiting, bothTyped, Tables, whole, contentIn, blockDifferences, Ready, Holds, Answers};
 
 // What comparing answers: how many differences there are, or why not.
 pub enum Compared {
@@ -191,7 +188,7 @@ fn put_pair(
     put_whole(difference::BLOCK, out, n, k)
 }
 
-// A block with the same bytes in both packets, which do not measure the same sources.
+// A block with the same bytes in both packets, whose tables are not the same.
 fn put_same(
     x: &[u8],
     y: &[u8],
@@ -234,7 +231,7 @@ fn put_whole(kind: u32, out: &mut [u32], n: u32, k: u32) -> usize
     )
 }
 
-// Whether two blocks are of one type of those that nothing but their size can drop, and have that size.
+// Whether two blocks are both 14, both 240 or both 241, and of their size: nothing else can drop these.
 fn typed_by_size(x: &[u8], y: &[u8]) -> bool
     requires { ⌜ (4 ≤ length (now x)) × (4 ≤ length (now y)) ⌝ }
     ensures { λ r. ⌜ (r ≡ true → SizeTyped (now (x .entry)) (now (y .entry))) ⌝ }
@@ -254,25 +251,56 @@ fn typed_by_size(x: &[u8], y: &[u8]) -> bool
     }
 }
 
-// Whether two blocks are of one type and typed, each in its packet. In packets that measure the same sources, one search for
-// a source settles both.
+// Whether two blocks are of one type and typed, each in its packet.
 fn both_typed(x: &[u8], y: &[u8], table: &[u32], other: &[u32], alike: bool) -> bool
     requires { ⌜ (4 ≤ length (now x)) × (4 ≤ length (now y)) × Tables (now table) (now other) alike ⌝ }
-    ensures { λ r. ⌜ r ≡ (eqb (getD (now (x .entry)) 0 0) (getD (now (y .entry)) 0 0) && (typedBy (now (table .entry)) (readBytes (now (x .entry))) && typedBy (now (other .entry)) (readBytes (now (y .entry))))) ⌝ }
+    ensures { λ r. ⌜ r ≡ bothTyped (now (table .entry)) (now (other .entry)) (now (x .entry)) (now (y .entry)) ⌝ }
 {
+    if both_wait(x, y) {
+        return both_measured(x, y, table, other, alike);
+    }
     if x[0] != y[0] {
         return false;
     }
-    let verdict = verdict::alone(x);
-    if verdict != verdict::alone(y) {
+    if !verdict::is_typed(x, table) {
         return false;
     }
-    if verdict == verdict::TYPED {
-        return true;
-    }
-    if verdict != block::UNMEASURED {
+    verdict::is_typed(y, other)
+}
+
+// Whether two blocks are good 17s, or good 18s, so that each waits for a measurement alone.
+fn both_wait(x: &[u8], y: &[u8]) -> bool
+    requires { ⌜ (4 ≤ length (now x)) × (4 ≤ length (now y)) ⌝ }
+    ensures { λ r. ⌜ (r ≡ true → Waiting (now (x .entry)) (now (y .entry))) ⌝ }
+{
+    let kind = x[0];
+    if kind != y[0] {
         return false;
     }
+    match kind {
+        17 => good_summary(x, 4 + block::LOSS_BYTES) & good_summary(y, 4 + block::LOSS_BYTES),
+        18 => good_summary(x, 4 + block::DISCARD_BYTES) & good_summary(y, 4 + block::DISCARD_BYTES),
+        _ => false,
+    }
+}
+
+// Whether a 17 or 18 has this size, and a flag and rates that reading lets through.
+fn good_summary(z: &[u8], size: usize) -> bool
+    requires { ⌜ 4 ≤ length (now z) ⌝ }
+    ensures { λ r. ⌜ (r ≡ true → GoodSummary (now (z .entry)) size) ⌝ }
+{
+    if z.len() != size {
+        return false;
+    }
+    block::summary_good(z[1] / 64, wire::u16_at(z, 8), wire::u16_at(z, 10))
+}
+
+// Whether two blocks that wait are measured, each in its packet. Where the tables are the same, one search for a source settles
+// both.
+fn both_measured(x: &[u8], y: &[u8], table: &[u32], other: &[u32], alike: bool) -> bool
+    requires { ⌜ Waiting (now x) (now y) × Tables (now table) (now other) alike ⌝ }
+    ensures { λ r. ⌜ r ≡ bothTyped (now (table .entry)) (now (other .entry)) (now (x .entry)) (now (y .entry)) ⌝ }
+{
     let source = wire::u32_at(x, 4);
     if !verdict::has(table, source) {
         return false;
@@ -303,7 +331,7 @@ fn same_blocks(x: &[u8], y: &[u8]) -> bool
     true
 }
 
-// Whether two tables have the same sources.
+// Whether two tables are the same. A source that stands twice in one of them makes them unlike, which costs time alone.
 fn same_tables(table: &[u32], other: &[u32]) -> bool
     ensures { λ r. ⌜ r ≡ sameNumbers (now (table .entry)) (now (other .entry)) ⌝ }
 {

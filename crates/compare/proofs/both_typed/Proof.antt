@@ -1,127 +1,70 @@
 -- `compare::both_typed` meets its contract: each return is a case of Both.antt. Assumes nothing.
-use mathlib.Core.Path.{_≡_, sym, ap, ap₂, _∙_}
-use mathlib.Core.Bool.{true}
-use mathlib.Core.List.{List}
-use Prim.Native.Nat.{ℕ}
-use borrow.Author.Tests.{not-true, not-false, eqb-true}
-use lib.ListN.{getD}
-use Rattle.wire.specs.BigEndian.{u32At}
-use lib.Dec.{eqb}
-use Rattle.refusal.proofs.Tests.{and-left, and-right}
+use mathlib.Core.Path.{_≡_, refl, sym, _∙_}
+use mathlib.Core.Bool.{true, false}
+use borrow.Author.Tests.{not-true, not-false}
 use Rattle.block.specs.Reading.{readBytes}
-use Rattle.packet.specs.Blocks.{readAmong}
-use Rattle.verdict.specs.Verdict.{verdictOf}
-use Rattle.verdict.specs.Sources.{member}
-use Rattle.compare.specs.Steps.{Tables}
-use Rattle.compare.proofs.Both.{other-type, other-verdict, typed-both, never-first, first-lacks, first-has}
+use Rattle.verdict.specs.Sources.{typedBy}
+use Rattle.compare.proofs.Both.{other-type, both}
 use borrow.Author.Needs.{needs}
 use Rattle.compare.proofs.both_typed.Statement.{statement}
 use Rattle.compare.proofs.both_typed.Tie as tie
 
-shared-slice-read-if1 : tie.Need-shared-slice-read-if1
-shared-slice-read-if1 c = search needs
+abbrev start : tie.After-is-typed → tie.Start
+start c = c .before .before .before .before .before .before .before .before .before .before
 
-shared-slice-read-if1-2 : tie.Need-shared-slice-read-if1-2
-shared-slice-read-if1-2 c = search needs
+-- what the first search said
+here : (c : tie.After-is-typed) → c .is-typed .result ≡ typedBy (start c .args .table .now) (readBytes (start c .args .x .now))
+here c = c .is-typed .ensures (start c .pre .2 .sorted)
+
+both-wait-requires : tie.Need-both-wait-requires
+both-wait-requires c κs = search needs
+
+both-measured-requires : tie.Need-both-measured-requires
+both-measured-requires c κs = (c .before .both-wait .ensures (c .if1 .taken), c .before .before .before .before .before .before .pre .2)
 
 returns : tie.Need-returns
-returns c = let a = c .before .before .before .before .before .before .before .args in other-type (a .x .now) (a .y .now) (a .table .now) (a .other .now) (c .if1 .taken)
+returns c = search needs
 
-alone-requires : tie.Need-alone-requires
-alone-requires c κs = search needs
+shared-slice-read-if2 : tie.Need-shared-slice-read-if2
+shared-slice-read-if2 c = search needs
 
-alone-requires-2 : tie.Need-alone-requires-2
-alone-requires-2 c κs = search needs
+shared-slice-read-if2-2 : tie.Need-shared-slice-read-if2-2
+shared-slice-read-if2-2 c = search needs
 
 returns-2 : tie.Need-returns-2
 returns-2 c =
-    other-verdict _ _ _ _ (c .before .before .before .if1 .left)
-    (λ e. c .if2 .taken (c .before .before .alone .ensures ∙ e ∙ sym (c .before .alone2 .ensures)))
+    let a = c .before .before .before .before .before .before .before .before .before .args in
+    other-type (a .x .now) (a .y .now) (a .table .now) (a .other .now) (c .if2 .taken)
+
+is-typed-requires : tie.Need-is-typed-requires
+is-typed-requires c κs = search needs
 
 returns-3 : tie.Need-returns-3
 returns-3 c =
-    let e = c .before in
-    typed-both _ _ _ _ (e .before .before .before .if1 .left) (sym (e .before .before .alone .ensures) ∙ c .if3 .taken)
-    (sym (e .before .alone2 .ensures) ∙ sym (e .if2 .left) ∙ c .if3 .taken)
+    let t = c .before in
+    let a = start t .args in
+    both (a .x .now) (a .y .now) (a .table .now) (a .other .now) (t .before .if2 .left) false (typedBy (a .other .now) (readBytes (a .y .now))) false (sym (not-true (t .is-typed .result) (c .if3 .taken)) ∙ here t) refl refl
+
+is-typed-requires-2 : tie.Need-is-typed-requires-2
+is-typed-requires-2 c κs = search needs
 
 returns-4 : tie.Need-returns-4
 returns-4 c =
-    let e = c .before .before in
-    let a = e .before .before .before .before .before .before .before .before .before .before .args in
-    never-first (a .x .now) (a .y .now) (a .table .now) (a .other .now) (e .before .before .before .if1 .left) (λ z. c .before .if3 .left (e .before .before .alone .ensures ∙ z)) (λ w. c .if4 .taken (e .before .before .alone .ensures ∙ w))
-
--- past the verdicts the tables settle it: the first has the source, or not
-tables : (c : tie.Else1) → Tables (c .before .before .before .before .before .before .before .args .table .now) (c .before .before .before .before .before .before .before .args .other .now) (c .before .before .before .before .before .before .before .args .alike)
-tables c = c .before .before .before .before .before .before .before .pre .2
-
-in-first : (c : tie.After-has) → c .has .result ≡ member (u32At (c .before .before .before .before .before .before .before .before .before .before .before .before .before .before .args .x .now) 4) (c .before .before .before .before .before .before .before .before .before .before .before .before .before .before .args .table .now)
-in-first c =
-    c .has .ensures (tables (c .before .before .before .before .before .before .before) .sorted)
-    ∙ ap (λ (source : ℕ). member source (c .before .before .before .before .before .before .before .before .before .before .before .before .before .before .args .table .now)) (c .before .u32-at .ensures)
-
-u32-at-requires : tie.Need-u32-at-requires
-u32-at-requires c κs = search needs
-
-has-requires : tie.Need-has-requires
-has-requires c κs = search needs
-
-returns-5 : tie.Need-returns-5
-returns-5 c =
-    let h = c .before in
-    let w = h .before .before in
-    let e = w .before .before in
-    let a = e .before .before .before .before .before .before .before .before .before .before .args in
-    first-lacks (a .x .now) (a .y .now) (a .table .now) (a .other .now) (e .before .before .before .if1 .left) (sym (e .before .before .alone .ensures) ∙ w .if4 .left)
-    (sym (e .before .alone2 .ensures) ∙ sym (e .if2 .left) ∙ w .if4 .left)
-    (sym (in-first h) ∙ not-true (h .has .result) (c .if5 .taken))
-
-u32-at-requires-2 : tie.Need-u32-at-requires-2
-u32-at-requires-2 c κs = search needs
-
-returns-6 : tie.Need-returns-6
-returns-6 c =
-    let h = c .before .before .before in
-    let w = h .before .before in
-    let e = w .before .before in
-    let t = tables (e .before .before .before) in
-    let start = e .before .before .before .before .before .before .before .before .before .before in
-    let joined = c .if6 .taken in
-    let alike = and-left (start .args .alike) (eqb (h .before .u32-at .result) (c .before .u32-at2 .result)) joined in
-    let source = eqb-true (h .before .u32-at .result) (c .before .u32-at2 .result) (and-right (start .args .alike) (eqb (h .before .u32-at .result) (c .before .u32-at2 .result)) joined) in
-    let found = not-false (h .has .result) (c .before .before .if5 .left) in
-    first-has _ _ _ _ (e .before .before .before .if1 .left) (sym (e .before .before .alone .ensures) ∙ w .if4 .left)
-    (sym (e .before .alone2 .ensures) ∙ sym (e .if2 .left) ∙ w .if4 .left) true (sym (in-first h) ∙ found)
-    (sym found ∙ h .has .ensures (t .sorted) ∙ ap₂ (λ (n : ℕ) (l : List ℕ). member n l) (source ∙ c .before .u32-at2 .ensures) (t .same alike))
-
-has-requires-2 : tie.Need-has-requires-2
-has-requires-2 c κs = search needs
-
-returns-7 : tie.Need-returns-7
-returns-7 c =
-    let u = c .before .before in
-    let h = u .before .before in
-    let w = h .before .before in
-    let e = w .before .before in
-    first-has _ _ _ _ (e .before .before .before .if1 .left) (sym (e .before .before .alone .ensures) ∙ w .if4 .left)
-    (sym (e .before .alone2 .ensures) ∙ sym (e .if2 .left) ∙ w .if4 .left) _ (sym (in-first h) ∙ not-false (h .has .result) (u .before .if5 .left))
-    (c .has2 .ensures (tables (e .before .before .before) .other-sorted) ∙ ap (λ (source : ℕ). member source (e .before .before .before .before .before .before .before .before .before .before .args .other .now)) (u .u32-at2 .ensures))
+    let t = c .before .before in
+    let a = start t .args in
+    both (a .x .now) (a .y .now) (a .table .now) (a .other .now) (t .before .if2 .left) true (c .is-typed2 .result) (c .is-typed2 .result) (sym (not-false (t .is-typed .result) (c .before .if3 .left)) ∙ here t) (c .is-typed2 .ensures (start t .pre .2 .other-sorted)) refl
 
 pub both-typed-spec : {M : Type 1} → statement M
 both-typed-spec =
     tie.close
     (tie.spec
-    shared-slice-read-if1
-    shared-slice-read-if1-2
+    both-wait-requires
+    both-measured-requires
     returns
-    alone-requires
-    alone-requires-2
+    shared-slice-read-if2
+    shared-slice-read-if2-2
     returns-2
+    is-typed-requires
     returns-3
-    returns-4
-    u32-at-requires
-    has-requires
-    returns-5
-    u32-at-requires-2
-    returns-6
-    has-requires-2
-    returns-7)
+    is-typed-requires-2
+    returns-4)
