@@ -16,7 +16,7 @@ use Rattle.packet.specs.Reserved.{clearedAll}
 use Rattle.difference.specs.declared.Difference.{Difference}
 use Rattle.compare.specs.declared.Compared.the-variants.{Differences}
 use Rattle.difference.specs.Differences.{senders, fields, wholeBlock, onlyFirst, onlySecond}
-use Rattle.compare.specs.Differences.{Content, typed, bytes, contents}
+use Rattle.compare.specs.Differences.{Content, typed, bytes, contentOf, contents}
 use Rattle.compare.specs.Answer.{differencesOf, compareAnswer, listAfter}
 
 -- Nothing differs: the same sender, as many blocks, and each pair alike: two typed blocks of one type with the same fields,
@@ -70,6 +70,10 @@ Turned = (p q : Packet) → differencesOf q p ≡ map turned (differencesOf p q)
 -- what is compared of block k
 abbrev pub contentAt : List Entry → ℕ → Content
 contentAt es k = getD (contents es es) k (bytes [])
+
+-- what `readIn` says of block number k of its packet
+abbrev pub Contents-numbered : Type 0
+Contents-numbered = (es : List Entry) (k : ℕ) (e : Entry) → numbered es k ≡ one e → contentAt es k ≡ contentOf e (readIn es e)
 
 -- A difference: of the senders; of field f of block k, where both packets have it typed and of one type; of block k, where both
 -- have it and not so, and not the same; of a block that one packet alone has.

@@ -27,6 +27,7 @@ use Rattle.resend.proofs.Repair.{few-left}
 use Rattle.frame.specs.Packet.{packetOf}
 use Rattle.compare.specs.declared.Compared.{Compared}
 use Rattle.compare.specs.Answer.{differencesOf, withDifferences}
+use Rattle.compare.proofs.Contents.{content-at}
 use Rattle.compare.proofs.Empty.{empty-exactly, self-empty, reserved-empty, turned-round}
 use Rattle.compare.proofs.Listed.{listed-exactly}
 use Rattle.compare.proofs.Room.{room-enough}
@@ -83,6 +84,7 @@ demand-2 =
       packets-compared =
           record {
             listed = listed-exactly;
+            contents = λ es k e n. content-at es es k e n;
             empty = empty-exactly;
             self = self-empty;
             reserved = reserved-empty;

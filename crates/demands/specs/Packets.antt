@@ -25,7 +25,7 @@ use Rattle.packet.specs.Laws.{MeasuredAt}
 use Rattle.verdict.specs.Verdict.{verdictOf}
 use Rattle.survey.specs.Survey.{listOf}
 use Rattle.compose.specs.Laws.{afterAdd, New-read, Add, Appended, Added-read}
-use Rattle.compare.specs.Laws.{Listed-exactly, Empty-exactly, Self-empty, Reserved-empty, Turned, Room-enough}
+use Rattle.compare.specs.Laws.{Listed-exactly, Contents-numbered, Empty-exactly, Self-empty, Reserved-empty, Turned, Room-enough}
 use Rattle.demands.specs.Places.{blockLength, IsBlock}
 
 -- where block number k stands: the first at byte 8, each next one where the block before it ends
@@ -74,11 +74,12 @@ pub record BlocksAgain : Type 0 where
   pub by-itself : (b : Block) → Fits b → writable b ≡ true → readBytes (bytesOf b) ≡ Typed b
   pub in-packet : Added-read
 
--- two packets compared: each entry of the list is a difference and each difference has its entry, in order; the list is empty
--- exactly where nothing differs, so for a packet with itself, and where reserved bits of typed blocks alone differ; the other
+-- two packets compared: each entry of the list is a difference and each difference has its entry, in order, of blocks as they are
+-- read by number; the list is empty exactly where nothing differs, so for a packet with itself, and where reserved bits of typed blocks alone differ; the other
 -- way round it has the same entries, turned; and how much room is always enough
 pub record PacketsCompared : Type 0 where
   pub listed : Listed-exactly
+  pub contents : Contents-numbered
   pub empty : Empty-exactly
   pub self : Self-empty
   pub reserved : Reserved-empty

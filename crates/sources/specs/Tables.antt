@@ -13,7 +13,7 @@ use Rattle.sources.specs.declared.Gathered.the-variants.{Sources, Refuse
 abbrev pub blockBytes : ℕ
 blockBytes = 32
 
--- the tables of two good packets; a table with too little room for its packet has so many numbers, but any
+-- the tables of two good packets; of a table with too little room for its packet the bound on its count alone is said
 pub record Filled (first second table other : List ℕ) (answer : Gathered) : Type 0 where
   pub first-count : ℕ
   pub second-count : ℕ
