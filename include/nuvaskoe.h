@@ -8,8 +8,8 @@
  *
  * Buffers: a pointer and a length in elements: bytes, or 32-bit numbers for the lists of nuvaskoe_packet_list and
  * nuvaskoe_packet_compare. Where the length is 0 the pointer may be NULL, and nothing is read or written through it.
- * What stands behind a pointer belongs to the caller, and nothing is kept of it after the call. The buffers of one call
- * do not overlap: nothing is promised of a call whose `out` shares a byte with another buffer of it.
+ * What stands behind a pointer belongs to the caller, and nothing is kept of it after the call. Buffers that are
+ * only read may overlap, or be the same. `out` shares no byte with any of them: nothing is promised of a call where it does.
  *
  * Threads: the library has no state and allocates nothing. Every call can be made from any threads at once, as long as
  * none writes to a buffer that another one is lent.
@@ -221,7 +221,8 @@ nuvaskoe_written nuvaskoe_packet_list(const uint8_t *packet, size_t packet_len, 
 enum {
     NUVASKOE_DIFFERENCE_SENDER = 0, /* the senders: both readings are used */
     NUVASKOE_DIFFERENCE_FIELD = 1, /* a field of two typed blocks of one type: all numbers are used */
-    NUVASKOE_DIFFERENCE_BLOCK = 2, /* the whole block: another type, typed in one packet alone, or other bytes */
+    /* the whole block: two types; typed in one packet alone, even with the same bytes; or in neither, with other bytes */
+    NUVASKOE_DIFFERENCE_BLOCK = 2,
     NUVASKOE_DIFFERENCE_ONLY_FIRST = 3, /* a block that the first packet alone has */
     NUVASKOE_DIFFERENCE_ONLY_SECOND = 4 /* a block that the second packet alone has */
 };
@@ -239,8 +240,10 @@ typedef struct nuvaskoe_compared {
  * first, then block by block, in a block the fields in layout order from 0, the interval flag first. Reserved bits are left
  * out, and so are the packets that a block 241 covers: its fields after end have numbers one lower than their places above.
  * The answer counts differences; the numbers after the last keep what they held. out_len counts numbers: five for every
- * difference, and five times three eighths of the longer packet's bytes are always enough. Refusals: 1 to 6 of the first
- * packet, then 1 to 6 of the second, then 8, fewer than five numbers for each difference.
+ * difference, and 5 * (3 * longer / 8) are always enough, longer being the bytes of the longer packet. Refusals: 1 to 6 of the
+ * first packet, then 1 to 6 of the second, then 8, fewer than five numbers for each difference. The refusal does not say whose it
+ * is: it is the first packet's exactly where nuvaskoe_packet_read refuses the first. Takes about 64 KiB of the stack where a
+ * packet has over 2,048 bytes.
  */
 nuvaskoe_compared nuvaskoe_packet_compare(const uint8_t *first, size_t first_len, const uint8_t *second,
                                           size_t second_len, uint32_t *out, size_t out_len);

@@ -123,8 +123,10 @@ pub extern "C" fn nuvaskoe_packet_list(packet: &[u8], out: &mut [u32]) -> Writte
 // first, then block by block, in a block the fields in layout order from 0, the interval flag first. Reserved bits are left
 // out, and so are the packets that a block 241 covers: its fields after end have numbers one lower than their places above.
 // The answer counts differences; the numbers after the last keep what they held. out_len counts numbers: five for every
-// difference, and five times three eighths of the longer packet's bytes are always enough. Refusals: 1 to 6 of the first
-// packet, then 1 to 6 of the second, then 8, fewer than five numbers for each difference.
+// difference, and 5 * (3 * longer / 8) are always enough, longer being the bytes of the longer packet. Refusals: 1 to 6 of the
+// first packet, then 1 to 6 of the second, then 8, fewer than five numbers for each difference. The refusal does not say whose it
+// is: it is the first packet's exactly where nuvaskoe_packet_read refuses the first. Takes about 64 KiB of the stack where a
+// packet has over 2,048 bytes.
 #[no_mangle]
 pub extern "C" fn nuvaskoe_packet_compare(
     first: &[u8],
