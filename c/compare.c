@@ -22,6 +22,14 @@ static const uint8_t four[68] = {
     0xF0, 0x00, 0x00, 0x02, 0x00, 0x00, 0x00, 0x02, 0x92, 0x48, 0x00, 0x00
 };
 
+/* A block 241: source 2, packets 65,535 to 1, one transport stream, and counts of 1 to 8. */
+static const uint8_t streams[56] = {
+    0x80, 0xCF, 0x00, 0x0D, 0x00, 0x00, 0x00, 0x01,
+    0xF1, 0x00, 0x00, 0x0B, 0x00, 0x00, 0x00, 0x02, 0xFF, 0xFF, 0x00, 0x02, 0x00, 0x00, 0x00, 0x01,
+    0x00, 0x00, 0x00, 0x01, 0x00, 0x00, 0x00, 0x02, 0x00, 0x00, 0x00, 0x03, 0x00, 0x00, 0x00, 0x04,
+    0x00, 0x00, 0x00, 0x05, 0x00, 0x00, 0x00, 0x06, 0x00, 0x00, 0x00, 0x07, 0x00, 0x00, 0x00, 0x08
+};
+
 /* Room for eight differences and three numbers more, and what it holds before a call. */
 static uint32_t out[8 * NUMBERS + 3];
 
@@ -84,7 +92,8 @@ static void check_equal(void)
     other[9] = 0x7F; /* six under the discard block's flag */
     other[21] = 0xFF; /* the measurement's type-specific byte, and sixteen before its first sequence number */
     other[28] = other[29] = 0xFF;
-    other[66] = other[67] = 0xFF; /* the effective loss block's last sixteen */
+    other[57] = 0xFF; /* the effective loss block's type-specific byte, and its last sixteen */
+    other[66] = other[67] = 0xFF;
     CHECK(differ(four, sizeof four, other, sizeof other, 0));
 }
 
@@ -110,11 +119,33 @@ static void check_kinds(void)
     CHECK(differ(four, sizeof four, p12, sizeof p12, 4));
     CHECK(is(0, NUVASKOE_DIFFERENCE_BLOCK, 0, 0, 0, 0));
     CHECK(is(1, NUVASKOE_DIFFERENCE_ONLY_FIRST, 1, 0, 0, 0));
+    CHECK(is(2, NUVASKOE_DIFFERENCE_ONLY_FIRST, 2, 0, 0, 0));
     CHECK(is(3, NUVASKOE_DIFFERENCE_ONLY_FIRST, 3, 0, 0, 0));
     CHECK(differ(p12, sizeof p12, four, sizeof four, 4));
     CHECK(is(0, NUVASKOE_DIFFERENCE_BLOCK, 0, 0, 0, 0));
     CHECK(is(1, NUVASKOE_DIFFERENCE_ONLY_SECOND, 1, 0, 0, 0));
+    CHECK(is(2, NUVASKOE_DIFFERENCE_ONLY_SECOND, 2, 0, 0, 0));
     CHECK(is(3, NUVASKOE_DIFFERENCE_ONLY_SECOND, 3, 0, 0, 0));
+}
+
+/* The packets that a block 241 covers are no field here, so those after its end have numbers one lower than in a reading. */
+static void check_streams(void)
+{
+    uint8_t other[sizeof streams];
+
+    memcpy(other, streams, sizeof other);
+    other[9] = 0xFF; /* reserved */
+    other[15] = 3;
+    other[19] = 4;
+    other[23] = 2;
+    other[27] = 9;
+    other[55] = 0;
+    CHECK(differ(streams, sizeof streams, other, sizeof other, 5));
+    CHECK(is(0, NUVASKOE_DIFFERENCE_FIELD, 0, NUVASKOE_FIELD_STREAMS_SOURCE, 2, 3));
+    CHECK(is(1, NUVASKOE_DIFFERENCE_FIELD, 0, NUVASKOE_FIELD_STREAMS_END, 2, 4));
+    CHECK(is(2, NUVASKOE_DIFFERENCE_FIELD, 0, NUVASKOE_FIELD_STREAMS_STREAMS - 1, 1, 2));
+    CHECK(is(3, NUVASKOE_DIFFERENCE_FIELD, 0, NUVASKOE_FIELD_STREAMS_SYNC_LOSSES - 1, 1, 9));
+    CHECK(is(4, NUVASKOE_DIFFERENCE_FIELD, 0, NUVASKOE_FIELD_STREAMS_PTS_ERRORS - 1, 8, 0));
 }
 
 /* The same discard block, which only the first packet measures. */
@@ -160,6 +191,7 @@ int main(void)
 {
     check_equal();
     check_kinds();
+    check_streams();
     check_measured();
     check_refusals();
     return checked("compare.c");

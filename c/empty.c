@@ -24,7 +24,7 @@ static void check_reading(void)
     CHECK(nuvaskoe_block_read(NUVASKOE_BLOCK_LOSS, 64, NULL, 0).verdict == NUVASKOE_VERDICT_BAD_SIZE);
 }
 
-/* A packet without blocks needs no entry, so its list may be NULL too, and so may that of what differs from itself. */
+/* A packet without blocks needs no entry, so its list may be NULL too, and so may the list of its differences from itself. */
 static void check_empty_list(void)
 {
     uint8_t packet[8];

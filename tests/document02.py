@@ -1,4 +1,4 @@
-"""Document 02's requests computed a second time, by their definitions alone, over document 01's (document01.py)."""
+"""Document 02's tickets computed a second time, by their definitions alone, over document 01's (document01.py)."""
 
 import itertools
 import struct
@@ -6,7 +6,7 @@ import struct
 from document01 import LAYOUTS, WORDS, measured_sources, number_at, packet_blocks, reason, refuse_if
 
 
-# Request 1: two packets compared
+# Ticket 1: two packets compared
 
 def fields(kind, specific, body):
     """The fields of a typed block "in layout order from 0, the flag first, reserved bits left out"."""

@@ -1,8 +1,8 @@
 """Runs target/bin/nuvaskoe on files as a person would: each job on good and bad input, each exit status.
 
-What it answers is compared with the papers computed a second time (document01.py), its lines with the program `listing`, and
-its JSON is read by python's parser. Run as `python3 tests/command` in the repository's root after `make command` and
-`rt check listing`. Prints one line; exit status 1 with the first thing that is wrong.
+What it answers is compared with the papers computed a second time (document01.py and document02.py), its lines with the program
+`listing`, and its JSON is read by python's parser. Run as `python3 tests/command` in the repository's root after `make command`
+and `rt check listing`. Prints one line; exit status 1 with the first thing that is wrong.
 """
 import pathlib
 import re

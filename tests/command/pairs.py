@@ -6,7 +6,7 @@ import re
 import subprocess
 
 import document01 as paper
-import document02 as requests
+import document02 as tickets
 import listing
 from packets import LINES, damaged
 from run import COMMAND, SAMPLES, Run, refusal_of
@@ -53,7 +53,7 @@ def line_of(entry, first, second, names):
         return f"block {block} {what(first[block])} {word} {one} and {other}"
     if kind == 2:
         one, other = what(first[block]), what(second[block])
-        return f"block {block} {one} and {other}" if one != other else f"block {block} {one} in both with other bytes"
+        return f"block {block} {one} and {other}" if one != other else f"block {block} {one} in both, the bytes differ"
     return f"block {block} {what((first if kind == 3 else second)[block])} only in {names[kind - 3]}"
 
 
@@ -70,7 +70,7 @@ def compared(one, other, met):
             assert (run.status, run.out, got) == (2, b"", {"file": str(path), "refusal": no}), (run.what, run.out, got)
             met.add(("refused", path == one, no["number"]))
             return
-    entries = requests.compare(*packets)
+    entries = tickets.compare(*packets)
     first, second = map(texts, packets)
     lines = [line_of(entry, first, second, (one, other)) for entry in entries]
     assert run.status == (1 if entries else 0) and run.told == "", run.what
@@ -78,6 +78,7 @@ def compared(one, other, met):
     assert got["refusal"] == {"number": 0, "place": 0} and got["files"] == [str(one), str(other)], got
     assert got["differences"] == len(entries) and [tuple(entry[name] for name in FIVE) for entry in got["list"]] == entries, got
     blocks = [Run("list", "--json", path).json()["files"][0]["list"] for path in (one, other)]
+    contents = [[block[1:] for block in paper.packet_blocks(packet)] for packet in packets]
     for entry in got["list"]:
         kind, block, field = entry["kind"], entry["block"], entry["field"]
         more = {name: entry[name] for name in entry if name not in FIVE}
@@ -89,6 +90,8 @@ def compared(one, other, met):
             sides = {0: (), 2: (0, 1), 3: (0,), 4: (1,)}[kind]
             assert more == {("first_block", "second_block")[side]: blocks[side][block] for side in sides}, entry
             met.add(("kind", kind))
+            if kind == 2 and contents[0][block] == contents[1][block]:
+                met.add(("same bytes", contents[0][block][0]))
     met.update(word for line in lines for word in ("none", "over", "in both") if word in line)
 
 
@@ -102,6 +105,14 @@ def each_field():
             changed = readings[:field] + [others.get(name, 65535)] + readings[field + 1:]
             made = [(given[0], given[1:]) if kind in (17, 18) else (0, given) for given in (readings, changed)]
             yield [listing.packet(front + [paper.block_bytes(kind, *some)]) for some in made]
+
+
+def measured_in_one():
+    """The same 17, and the same 18, with a block 14 in the first packet alone."""
+    measured = paper.block_bytes(14, 0, (1, 0, 0, 0, 0, 0, 0))
+    for kind in (17, 18):
+        block = paper.block_bytes(kind, 1, [1] * (len(NAMES[kind]) - 1))
+        yield [listing.packet([block, *more]) for more in ([measured], [])]
 
 
 def changed(blocks, rng):
@@ -140,13 +151,13 @@ def each_refusal(rng):
 
 
 def check_compare(folder):
-    """All samples, a pair for each field and each refusal, and drawn pairs, each in both orders and one with itself: every kind
-    is met, every field, and every refusal of either packet."""
+    """All samples, a pair for each field, each refusal and each type that one packet alone can measure, and drawn pairs, each in both
+    orders and one with itself: every kind is met, every field, every refusal of either packet, and the same bytes read otherwise."""
     rng, met = random.Random(6), set()
     for one, other in itertools.product(sorted(SAMPLES.glob("*.xr")), repeat=2):
         compared(one, other, met)
     east, west = folder / "east.xr", folder / "west.xr"
-    for packets in [*each_field(), *each_refusal(rng), *(drawn(rng) for _ in range(120))]:
+    for packets in [*each_field(), *measured_in_one(), *each_refusal(rng), *(drawn(rng) for _ in range(120))]:
         for path, packet in zip((east, west), packets):
             path.write_bytes(packet)
         for names in ((east, west), (west, east), (west, west)):
@@ -154,11 +165,12 @@ def check_compare(folder):
     fields = {(kind, field) for kind, names in NAMES.items() for field in range(len(names))}
     kinds = {("kind", kind) for kind in (0, 2, 3, 4)}
     refused = {("refused", first, number) for first in (True, False) for number in (1, 2, 3, 4, 5, 6)}
-    assert met == fields | kinds | refused | {"none", "over", "in both"}, met
+    same = {("same bytes", 17), ("same bytes", 18)}
+    assert met == fields | kinds | refused | same | {"none", "over", "in both"}, met
 
 
 def check_compare_files(folder):
-    """Standard input, odd names, the largest packets and larger files, a reader that goes away."""
+    """Standard input, odd names, the largest packets and larger files, a reader that goes away, a full disk."""
     p12, one, more = SAMPLES / "p12.xr", folder / "one.xr", folder / "a\nblock 0"
     assert Run("compare", "-", p12, data=listing.P12).text() == Run("compare", p12, "-", data=listing.P12).text() == ""
     one.write_bytes(listing.packet([]))
@@ -178,6 +190,10 @@ def check_compare_files(folder):
         run.stdout.read(1)
         run.stdout.close()
         assert (run.wait(), run.stderr.read()) == (1, b"")
+    with open("/dev/full", "wb") as full:
+        for words in ((one, p12), (SAMPLES / "week-1.xr", p12), (SAMPLES / "week-1.xr", p12, "--json")):
+            run = Run("compare", *words, stdout=full)
+            assert run.status == 2 and "standard output" in run.told, run.what
     # What the library says of a longer file does not depend on how much longer it is.
     for longer, number in ((largest + b"\0", 4), (largest + bytes(400000), 4), (b"\x40" + largest, 2), (bytes(300000), 2)):
         more.write_bytes(longer)

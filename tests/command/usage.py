@@ -22,9 +22,10 @@ def check_usage(_):
     Run("card").wrong("card what?")
     Run("--json", "list").wrong("the job comes first")
     Run("help", "figures", "x").wrong('no job "figures x"')
-    for job, name in [("list", "FILE"), ("compare", "A or B"), ("card read", "TEXT"), ("figures", "TRACE"), ("loss", "TRACE"),
-                      ("plan", "TRACE"), ("report", "TRACE"), ("explain", "N")]:
-        Run(*job.split()).wrong(f"{name} is missing", f"usage: nuvaskoe {job}")
+    for job, fewer in [("list", "FILE is missing"), ("compare", "two files are needed"), ("card read", "TEXT is missing"),
+                       ("figures", "TRACE is missing"), ("loss", "TRACE is missing"), ("plan", "TRACE is missing"),
+                       ("report", "TRACE is missing"), ("explain", "N is missing")]:
+        Run(*job.split()).wrong(fewer, f"usage: nuvaskoe {job}")
         assert Run(*job.split(), "--help").text() == Run("help", *job.split()).text()
         Run(*job.split(), "--none", GOOD).wrong("there is no option --none")
     assert Run("card", "--help").text() == Run("help", "card").text() == Run("card", "-h").text()
@@ -51,7 +52,7 @@ def check_options(_):
     Run("figures", "--card", "-", "-").wrong("once")
     Run("list", "-", "-").wrong("once")
     Run("compare", "-", "-").wrong("once")
-    Run("compare", "-").wrong("A or B is missing")
+    Run("compare", "-").wrong("two files are needed")
     Run("compare", GOOD, GOOD, GOOD).wrong("too many")
     Run("plan", "--card", CARD, GOOD, "-o", "-", "--json").wrong("standard output")
     assert Run("plan", "--card", CARD, "--", GOOD).status == 0

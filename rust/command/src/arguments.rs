@@ -32,11 +32,11 @@ pub const JSON: Opt = Opt {
     words: "one JSON object with every number, in place of words",
 };
 
-/// How many words a job takes that are no options, and what usage calls them.
+/// How many words a job takes that are no options, and what usage says of fewer.
 pub struct Takes {
-    pub name: &'static str,
     pub least: usize,
     pub most: usize,
+    pub fewer: &'static str,
 }
 
 /// What was given to a job.
@@ -118,9 +118,9 @@ impl Arguments {
 
     /// Whether there are as many words as the job takes, and standard input is read once.
     fn judge(&self) -> Result<(), Failure> {
-        let Takes { name, least, most } = self.job.takes;
+        let Takes { least, most, fewer } = self.job.takes;
         if self.words.len() < least {
-            return Err(self.usage(format!("{name} is missing")));
+            return Err(self.usage(fewer));
         }
         if let Some(word) = self.words.get(most) {
             let word = plain(&word.to_string_lossy());

@@ -27,9 +27,9 @@ The page of a job has its options, and an example that works as it is printed.
 ",
     options: &[MANUAL, COMPLETION],
     takes: Takes {
-        name: "JOB",
         least: 0,
         most: 2,
+        fewer: "",
     },
     example: "\
 $ nuvaskoe help --completion | tail -n 1
@@ -46,9 +46,9 @@ pub const VERSION: Job = Job {
     words: "",
     options: &[],
     takes: Takes {
-        name: "",
         least: 0,
         most: 0,
+        fewer: "",
     },
     example: "",
     run: version,

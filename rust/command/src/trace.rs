@@ -23,9 +23,9 @@ pub const FORM: Opt = Opt {
 
 /// A job on one trace.
 pub const ONE: Takes = Takes {
-    name: "TRACE",
     least: 1,
     most: 1,
+    fewer: "TRACE is missing",
 };
 
 /// How trace files are written.

@@ -1,4 +1,4 @@
-//! "Compare two reports" (document 02, request 1): "every differing field of their two packets,
+//! "Compare two reports" (document 02, ticket 1): "every differing field of their two packets,
 //! blocks paired by index". Refusals in order: 1 to 6 of the first packet, 1 to 6 of the
 //! second, then 8.
 

@@ -1,7 +1,9 @@
 //! A plain second implementation of document 01, written from that document alone, but for
-//! `late_tally`, a model of what the document leaves free, and `compare`, document 02's request 1.
+//! `late_tally`, a model of what the document leaves free, and `compare`, document 02's ticket 1.
 //! It shares no code with the library it checks, and prefers the document's own
 //! words to speed: where the two disagree, one of them misreads the document.
+//! `compare` is written for speed, with shortcuts: its plain form is tests/document02.py, to which
+//! tests/cases.py holds the library by cases/compare.txt.
 #![forbid(unsafe_code)]
 
 pub mod block;

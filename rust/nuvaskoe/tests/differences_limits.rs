@@ -3,7 +3,7 @@
 
 mod support;
 
-use std::collections::BTreeSet;
+use std::{cmp::Ordering, collections::BTreeSet};
 use support::{
     boundary::DIFFERENCE_NUMBERS,
     differences::{compare_both, enough, entries, lawful_entries, needed, Entry},
@@ -233,6 +233,81 @@ fn many_sources() {
     assert!(lawful_entries(&report(2), &report(3))
         .into_iter()
         .eq(expected));
+}
+
+/// A packet of `length` bytes full of 14s, each of another source, behind 18s of the first of
+/// these; blocks of one word fill its end. The 14 number `other` has a source that is none of them.
+fn full_of_sources(length: usize, summaries: usize, other: Option<usize>) -> Vec<u8> {
+    let rest = length - 8 - 12 * summaries;
+    let count = rest / 32;
+    let of_source = |index: usize| match other == Some(index) {
+        true => listed(14, scattered(count)),
+        false => listed(14, scattered(index)),
+    };
+    let blocks = (0..summaries)
+        .map(|index| listed(18, scattered(index)))
+        .chain((0..count).map(of_source))
+        .chain(vec![block(9, 0, &[]); rest % 32 / 4]);
+    let bytes = packet(1, &blocks.collect::<Vec<_>>());
+    assert_eq!(bytes.len(), length);
+    bytes
+}
+
+/// Another source for each number, not in order.
+fn scattered(number: usize) -> u32 {
+    (number as u32).wrapping_mul(0x9E37_79B1)
+}
+
+/// The library has short tables of sources where neither packet is longer than 2,048 bytes: both
+/// packets on either side of that, and one on each. One 14 is of another source, and its 18, if
+/// it has one, is then dropped.
+#[test]
+fn short_and_long_tables() {
+    let lengths = [2_048, 2_052];
+    // 18s, 14s, and all blocks of the shorter packet: the most 14s, and as many as there are 18s.
+    for (summaries, count, blocks) in [(2, 63, 65), (46, 46, 96)] {
+        for (length, other_length) in lengths
+            .map(|one| lengths.map(|other| (one, other)))
+            .concat()
+        {
+            let only = match length.cmp(&other_length) {
+                Ordering::Equal => None,
+                Ordering::Greater => Some([3, blocks, 0, 0, 0]),
+                Ordering::Less => Some([4, blocks, 0, 0, 0]),
+            };
+            let first = full_of_sources(length, summaries, None);
+            for other in 0..count {
+                let second = full_of_sources(other_length, summaries, Some(other));
+                let dropped = (other < summaries).then_some([2, other as u32, 0, 0, 0]);
+                let at = (summaries + other) as u32;
+                let source = Some([1, at, 0, scattered(other), scattered(count)]);
+                let expected = [dropped, source, only].into_iter().flatten();
+                assert!(lawful_entries(&first, &second).into_iter().eq(expected));
+            }
+        }
+    }
+}
+
+/// As many 14s as a packet can have, each of another source; one field of one of them differs.
+#[test]
+fn the_most_sources() {
+    let count = 8_191;
+    let first = full_of_sources(8 + 32 * count, 0, None);
+    for block in [0, count / 2, count - 1] {
+        for (field, word) in [(0, 1), (1, 2), (6, 7)] {
+            let place = 8 + 32 * block + 4 * word;
+            let mut second = first.clone();
+            second[place + 3] ^= 1;
+            let [reading, other] = [&first, &second]
+                .map(|packet| u32::from_be_bytes(packet[place..][..4].try_into().unwrap()));
+            let expected = [1, block as u32, field, reading, other];
+            assert_eq!(lawful_entries(&first, &second), [expected]);
+        }
+    }
+    // Two 18s more make it the longest, the second of them not measured in one packet.
+    let [first, second] = [None, Some(1)].map(|other| full_of_sources(LONGEST, 2, other));
+    let source = [1, 3, 0, scattered(1), scattered(count)];
+    assert_eq!(lawful_entries(&first, &second), [[2, 1, 0, 0, 0], source]);
 }
 
 /// No length field fits a longer packet.

@@ -22,9 +22,9 @@ The text - is standard input, with a card on each line.
 ",
     options: &[JSON],
     takes: Takes {
-        name: "TEXT",
         least: 1,
         most: usize::MAX,
+        fewer: "TEXT is missing",
     },
     example: "\
 $ nuvaskoe card read 01600100000100040096
@@ -47,9 +47,9 @@ are on that card.
 ",
     options: &[GMIN, BATCH, THRESHOLD, SPACING, CARD, JSON],
     takes: Takes {
-        name: "",
         least: 0,
         most: 0,
+        fewer: "",
     },
     example: "\
 $ nuvaskoe card make --gmin 16 --batch 100 --threshold 10 --spacing 400

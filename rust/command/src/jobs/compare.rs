@@ -21,9 +21,11 @@ pub const COMPARE: Job = Job {
     words: "\
 A and B are files with one packet each. Their blocks are paired by number, and
 each difference is a line in the words of the job `list`: what A has, `and`,
-what B has. The eight counts of `ts` have names here. Blocks of two types, and
-blocks that are unknown or dropped, are compared as a whole; of all others the
-reserved bits are left out. A file of over 262,144 bytes is no packet.
+what B has. A block of one packet alone is `only in FILE`, and two blocks that
+these words do not tell apart are `in both, the bytes differ`. The eight counts
+of `ts` have names here. Blocks of two types, and blocks that are unknown or
+dropped, are compared as a whole; of all others the reserved bits are left out.
+A file of over 262,144 bytes is no packet.
 
 The exit status is that of diff: 0 where nothing differs, and nothing is then
 printed; 1 where something does; 2 for a refusal, for wrong usage or for a file
@@ -31,9 +33,9 @@ that cannot be read.
 ",
     options: &[JSON],
     takes: Takes {
-        name: "A or B",
         least: 2,
         most: 2,
+        fewer: "two files are needed",
     },
     example: "\
 $ printf '\\200\\317\\0\\4\\0\\0\\0\\1\\360\\0\\0\\2\\0\\0\\0\\2\\222\\110\\0\\0' > east.xr
@@ -53,7 +55,7 @@ const DIFFERENT: u8 = 1;
 
 fn run(arguments: &Arguments) -> Result<Answer<'_>, Failure> {
     let [first, second] = arguments.words() else {
-        return Err(arguments.usage("A or B is missing"));
+        return Err(arguments.usage(COMPARE.takes.fewer));
     };
     let (one, other) = (bytes(first)?, bytes(second)?);
     // The library does not say whose refusal it is, but the first packet's comes first.
@@ -162,7 +164,7 @@ impl Pair<'_> {
             }
             Difference::Block { block } => match (first.kind(block), second.kind(block)) {
                 (kind, other) if kind == other => {
-                    format!("block {block} {kind} in both with other bytes")
+                    format!("block {block} {kind} in both, the bytes differ")
                 }
                 (kind, other) => format!("block {block} {kind} and {other}"),
             },

@@ -18,9 +18,9 @@ has reason N. A number that is both is explained as both; D4 is reason 4 alone.
 ",
     options: &[JSON],
     takes: Takes {
-        name: "N",
         least: 1,
         most: usize::MAX,
+        fewer: "N is missing",
     },
     example: "\
 $ nuvaskoe explain 12

@@ -22,9 +22,9 @@ too large to send. A block that reads `dropped` has a reason, which the job
 ",
     options: &[JSON],
     takes: Takes {
-        name: "FILE",
         least: 1,
         most: usize::MAX,
+        fewer: "FILE is missing",
     },
     example: "\
 $ printf '\\200\\317\\0\\4\\0\\0\\0\\1\\360\\0\\0\\2\\0\\0\\0\\2\\222\\110\\0\\0' | nuvaskoe list -

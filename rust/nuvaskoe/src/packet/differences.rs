@@ -105,8 +105,8 @@ fn most(first: &[u8], second: &[u8]) -> usize {
 /// Answers how many differences there are; the numbers after the last keep what they held.
 ///
 /// Refusals: those of the first packet, those of the second, then 8, fewer than five
-/// numbers for each difference. Five for every three eighths of the longer packet's bytes
-/// are always enough.
+/// numbers for each difference. `5 * (3 * longer / 8)` numbers are always enough, `longer`
+/// being the bytes of the longer packet; two for each of its bytes are more than that.
 #[inline]
 pub fn compare(first: &[u8], second: &[u8], out: &mut [u32]) -> Result<usize, Refusal> {
     // SAFETY: a slice's pointer is never null and is good for reading its length, and

@@ -41,8 +41,8 @@ fn compared(answer: &Answer<usize>) -> Compared {
     }
 }
 
-/// The numbers that are always enough: five for each of three eighths of the longer packet's
-/// bytes.
+/// The numbers that are always enough: `5 * (3 * longer / 8)`, `longer` being the bytes of the
+/// longer packet; two for each of its bytes are more than that.
 pub fn enough(first: &[u8], second: &[u8]) -> usize {
     DIFFERENCE_NUMBERS * (3 * first.len().max(second.len()) / 8)
 }
