@@ -1,4 +1,4 @@
--- A search: its start, one turn by quarters, and the end. It stays inside any table, and in a sorted one it finds. Assumes nothing.
+-- A search: where it begins, one turn by quarters, and the end. It stays inside any table, and in a sorted one it finds. Assumes nothing.
 use Prim.Native.Nat.{ℕ, _+_, _-_, _*_, _/_, _<_, _≤_}
 use mathlib.Core.Path.{_≡_, sym, ap, _∙_}
 use mathlib.Core.Bool.{Bool, true, false, cond, _||_}
@@ -14,13 +14,18 @@ use Rattle.verdict.specs.Search.{Among, Search}
 use Rattle.verdict.specs.Sources.{member}
 use Rattle.verdict.proofs.Members.{nowhere, somewhere}
 
-pub search-all : (table : List ℕ) (x : ℕ) → 0 < length table → Search table x 0 (length table)
-search-all table x h =
+-- a part of the table, by the numbers at its two ends
+pub search-between : (table : List ℕ) (x low size : ℕ) → 0 < size → low + size < length table → getD table low 0 ≤ x → x < getD table (low + size) 0 → Search table x low size
+search-between table x low size some within le lt =
     record {
-      some = h;
+      some = some;
       within = omega arith;
-      among = λ sorted. record { below = λ l. absurd (omega arith); above = λ i g l. absurd (omega arith) };
+      among = λ sorted. record { below = λ l. le; above = λ i g l. let order = sorted (low + size) i g l in omega arith };
     }
+
+-- how far into a numbers x stands, of all numbers below 2 ^ 32
+pub share : (a x : ℕ) → x < 4294967296 → a * x ≤ 4294967296 * a
+share a x h = rw (mul-comm 4294967296 a) (mul-le-mul {n₁ = a} {n₂ = a} (omega arith) (omega arith))
 
 -- what a comparison counts
 pub counts : (y x : ℕ) → cond (leb y x) 1 0 ≤ 1

@@ -123,8 +123,9 @@ fn quarter(table: &[u32], x: u32) -> Part
     requires { ⌜ 0 < length (now table) ⌝ }
     ensures { λ r. ⌜ Search (now (table .entry)) x (r .low) (r .size) × (r .size ≤ 3) ⌝ }
 {
-    let mut low = 0;
-    let mut size = table.len();
+    let part = near(table, x);
+    let mut low = part.low;
+    let mut size = part.size;
     while 3 < size {
         let fourth = size / 4;
         let first = at_most(table[low + fourth], x);
@@ -134,6 +135,29 @@ fn quarter(table: &[u32], x: u32) -> Part
         size -= 3 * fourth;
     }
     Part { low, size }
+}
+
+// Where a search begins. Sources are drawn at random (RFC 3550), so that x stands about as far into a long table as into all
+// numbers: among the 63 there, if those around it say so, else anywhere.
+fn near(table: &[u32], x: u32) -> Part
+    requires { ⌜ 0 < length (now table) ⌝ }
+    ensures { λ r. ⌜ Search (now (table .entry)) x (r .low) (r .size) ⌝ }
+{
+    let size = table.len();
+    if size < 128 {
+        return Part { low: 0, size };
+    }
+    if 65_536 < size {
+        return Part { low: 0, size };
+    }
+    let low = ((size - 64) as u64 * x as u64 / 4_294_967_296) as usize;
+    if x < table[low] {
+        return Part { low: 0, size };
+    }
+    if table[low + 63] <= x {
+        return Part { low: 0, size };
+    }
+    Part { low, size: 63 }
 }
 
 // 1 where y is at most x, and 0 where not, as the carry of x + 2 ^ 32 - y: a test would be compiled to a branch.

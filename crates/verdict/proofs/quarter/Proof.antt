@@ -4,7 +4,7 @@ use mathlib.Core.Path.{refl}
 use native.Mathlib.Omega.{arith}
 use native.Mathlib.Nat.{lt-of-le-of-lt}
 use Rattle.verdict.specs.Search.{Search}
-use Rattle.verdict.proofs.Searching.{search-all, quarter-few, quarter-fits, search-quarter}
+use Rattle.verdict.proofs.Searching.{quarter-few, quarter-fits, search-quarter}
 use borrow.Author.Needs.{needs}
 use Rattle.verdict.proofs.quarter.Statement.{statement}
 use Rattle.verdict.proofs.quarter.Tie as tie
@@ -15,8 +15,11 @@ Inv-loop table x low₀ size₀ low size = Search table x low size
 abbrev μ-loop : tie.MeasureT-loop
 μ-loop table x low₀ size₀ low size = size
 
+near-requires : tie.Need-near-requires Inv-loop μ-loop
+near-requires c κs = search needs
+
 loop-holds : tie.Need-loop-holds Inv-loop μ-loop
-loop-holds c = search-all _ _ (c .before .pre)
+loop-holds c = c .near .ensures
 
 add-at-most : tie.Need-add-at-most Inv-loop μ-loop
 add-at-most c = omega arith
@@ -100,6 +103,7 @@ quarter-spec =
     (tie.spec
     Inv-loop
     μ-loop
+    near-requires
     loop-holds
     add-at-most
     mul-at-most
