@@ -8,8 +8,8 @@ use native.Mathlib.Nat.{zero-add, add-zero}
 use borrow.Author.Tests.{le-leb, lt-leb, eq-eqb, ne-eqb}
 use lib.Dec.{eqb}
 use lib.ListN.{length, getD}
-use Rattle.trace.specs.Sum.{sum, bit, bits, count}
-use Rattle.trace.proofs.Sums.{sum-cut, sum-same, count-none, count-most}
+use Rattle.trace.specs.Sum.{bit, bits, count}
+use Rattle.trace.proofs.Sums.{sum-one, sum-cut, sum-same, count-none, count-all, count-most}
 use Rattle.bursts.specs.Groups.{eventsFrom, eventsAt, Group, firstOf, lastOf, groups, isBurst, burstsOf, packetsOf, inside, total}
 use Rattle.bursts.specs.Sums.{sumsOver}
 use Rattle.bursts.specs.Grouping.{listed, eventsIn, isEvent, inBurst, Events-are, Sums-counted}
@@ -34,14 +34,8 @@ module _ (test : ℕ → Bool) where
   range-same other lo hi l same = sum-same (bits test) (bits other) lo (hi - lo) (λ i h. ap bit (same (lo + i) (omega arith) (omega arith)))
 
   range-one : (p : ℕ) → test p ≡ true → range test p (suc p) ≡ 1
-  unfolding sum bit
-  range-one p h = let one : suc p - p ≡ 1 = omega arith in rw (one, add-zero p, h)
-
--- all of n positions
-pub count-all : (lo n : ℕ) → count (λ i. true) lo n ≡ n
-unfolding sum bit
-count-all lo zero = refl
-count-all lo (suc n) = omega (arith, count-all lo n)
+  unfolding bit
+  range-one p h = let one : suc p - p ≡ 1 = omega arith in rw (one, sum-one (bits test) p, h)
 
 -- positions that rise from lo on, below hi
 unfoldable pub Rising : ℕ → ℕ → List ℕ → Type 0
@@ -204,7 +198,7 @@ unfolding AllSome eventsIn Weighs
 packets-weigh lo hi [] some r = omega arith
 packets-weigh lo hi (g ∷ gs) some r =
     let c = cut lo hi g (eventsIn gs) (some .0) r in
-    (omega (arith, count-all (firstOf g) (suc (lastOf g) - firstOf g), c .long), packets-weigh (suc (lastOf g)) hi gs (some .1) (c .rest))
+    (omega (arith, count-all (λ i. true) (firstOf g) (suc (lastOf g) - firstOf g) (λ i l h. refl), c .long), packets-weigh (suc (lastOf g)) hi gs (some .1) (c .rest))
 
 -- and every event: the test is any that agrees with the list from lo on
 events-weigh : (test : ℕ → Bool) (lo hi : ℕ) (gs : List Group) → AllSome gs → Rising lo hi (eventsIn gs) →

@@ -14,14 +14,14 @@ use Rattle.settings.specs.Ranges.{spacingMax, burstInRange}
 use Rattle.settings.proofs.Bounds.{burst}
 use Rattle.trace.specs.Sum.{bit, bits}
 use Rattle.trace.specs.Trace.{traceMax}
-use Rattle.trace.proofs.Sums.{sum-both}
+use Rattle.trace.proofs.Sums.{sum-both, count-all}
 use Rattle.bursts.specs.declared.Sums.{Sums}
 use Rattle.bursts.specs.Groups.{eventsAt, Group, lastOf, groups, burstMin, isBurst, burstsOf, packetsOf, duration, square, total}
 use Rattle.bursts.specs.Sums.{sumsOver, sumsOf, countsSound, durationsSound, sumsSound}
 use Rattle.bursts.specs.Grouping.{isEvent, inBurst, eventsIn}
 use Rattle.bursts.specs.Laws.{Sums-sound}
 use Rattle.bursts.proofs.Groups.{AllSome, groups-some}
-use Rattle.bursts.proofs.Positions.{count-all, Rising, Cut, cut, cut-dense, groups-rise, sums-counted}
+use Rattle.bursts.proofs.Positions.{Rising, Cut, cut, cut-dense, groups-rise, sums-counted}
 use Rattle.bursts.proofs.Soundness.{Counts, Durations, counts-sound, durations-sound}
 
 -- squares of sums
@@ -140,7 +140,7 @@ module _ (event : ℕ → Bool) (gmin spacing : ℕ) (s : List ℕ) where
       let p = sums-counted event gmin spacing s in
       let ev = isEvent event s in
       let in-burst = inBurst (groups gmin (eventsAt event s)) in
-      let all = count-all 0 (length s) in
+      let all = count-all (λ i. true) 0 (length s) (λ i l h. refl) in
       let packets = sum-both (bits (λ i. true)) (bits in-burst) (bits (λ i. not (in-burst i))) 0 (length s) (λ i h. split true (in-burst (0 + i))) in
       let events = sum-both (bits ev) (bits (λ i. ev i && in-burst i)) (bits (λ i. ev i && not (in-burst i))) 0 (length s) (λ i h. split (ev (0 + i)) (in-burst (0 + i))) in
       let gaps = sum-both (bits (λ i. not (in-burst i))) (bits (λ i. ev i && not (in-burst i))) (bits (λ i. not (ev i) && not (in-burst i))) 0 (length s) (λ i h. other (ev (0 + i)) (in-burst (0 + i))) in

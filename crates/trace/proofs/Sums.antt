@@ -1,6 +1,6 @@
--- Laws of sums over positions: the step, the cut, two sums compared position by position, and the sum of
--- tests. Every window of a trace is a difference of two sums from 0, so that what is said of windows is plain
--- arithmetic. Assumes nothing.
+-- Laws of sums over positions: none and one, the step, the cut, a part, two sums compared position by position, and
+-- the sum of tests, where none passes and where all do. Every window of a trace is a difference of two sums from 0, so
+-- that what is said of windows is plain arithmetic. Assumes nothing.
 use Prim.Native.Nat.{ℕ, zero, suc, _+_, _-_, _<_, _≤_}
 use mathlib.Core.Path.{_≡_, refl, ap, _∙_}
 use mathlib.Core.Bool.{Bool, true, false}
@@ -19,6 +19,10 @@ module _ (f : ℕ → ℕ) (start : ℕ) where
   unfolding sum
   sum-none = refl
 
+  pub sum-one : sum f start 1 ≡ f start
+  unfolding sum
+  sum-one = rw add-zero (omega arith)
+
   pub sum-step : (n : ℕ) → sum f start (n + 1) ≡ sum f start n + f (start + n)
   unfolding sum
   sum-step n = rw add-one
@@ -27,6 +31,9 @@ module _ (f : ℕ → ℕ) (start : ℕ) where
   unfolding sum
   sum-cut m zero = rw add-zero (omega arith)
   sum-cut m (suc n) = rw (add-suc, sum-cut m n, add-assoc start m n) (omega arith)
+
+  pub sum-part : (m n : ℕ) → m ≤ n → sum f start m ≤ sum f start n
+  sum-part m n h = let e : n ≡ m + (n - m) = omega arith in omega (arith, ap (sum f start) e, sum-cut m (n - m))
 
 module _ (f g : ℕ → ℕ) (start : ℕ) where
   pub sum-same : (n : ℕ) → ((i : ℕ) → i < n → f (start + i) ≡ g (start + i)) → sum f start n ≡ sum g start n
@@ -53,6 +60,12 @@ unfolding sum bit
 count-none test start zero none = refl
 count-none test start (suc n) none =
     rw (none (start + n) (omega arith) (omega arith), count-none test start n (λ i l h. none i l (omega arith)))
+
+pub count-all : (test : ℕ → Bool) (start n : ℕ) → ((i : ℕ) → start ≤ i → i < start + n → test i ≡ true) → count test start n ≡ n
+unfolding sum bit
+count-all test start zero all = refl
+count-all test start (suc n) all =
+    rw (all (start + n) (omega arith) (omega arith), count-all test start n (λ i l h. all i l (omega arith))) (omega arith)
 
 -- f over the first n positions
 abbrev pub upTo : (ℕ → ℕ) → ℕ → ℕ
