@@ -4,22 +4,40 @@ use refusal::Judged;
 use refusal::Refusal;
 use trace::Event;
 ghost use mathlib.Core.Path.{_≡_};
-ghost use Prim.Native.Nat.{_+_, _-_, _≤_};
+ghost use Prim.Native.Nat.{ℕ, _+_, _-_, _<_, _≤_, min};
 ghost use lib.ListN.{length};
 ghost use Rattle.trace.specs.declared.Event.the-variants.{Lost};
 ghost use Rattle.trace.specs.Sum.{bit, count};
 ghost use Rattle.trace.specs.Trace.{countsAs, countedAt, judged, traceMax};
 ghost use Rattle.batch.specs.Judging.{judgedFor};
-ghost use Rattle.batch.specs.Batches.{batches, lossesIn, isOver, overCount, firstOver};
+ghost use Rattle.batch.specs.declared.First.the-variants.{At};
+ghost use Rattle.batch.specs.Batches.{lossesIn, isOver, overCount, firstOver};
+ghost use Rattle.batch.specs.Stride.{stride};
 ghost use Rattle.batch.specs.Loss.{lossOf, lossAnswer};
 
 // The index of a loss of every batch.
 const FULL_LOSS: usize = 65_535;
 
+// A stride: so many batches one after the other, and as many packets that enter or leave on the way. Their losses fit a
+// byte, so that counting them is compiled to many packets a step.
+const STRIDE: usize = 64;
+
 // The first batch over the threshold, by the index of its first packet.
 pub enum First {
     At(usize),
     None,
+}
+
+// The running count: a batch, by the index of its first packet, and its losses.
+struct Running {
+    start: usize,
+    losses: usize,
+}
+
+// The first batch over the threshold, and its losses where there is one.
+struct Reached {
+    first: First,
+    losses: usize,
 }
 
 // K batches of N are over the threshold; the index is K / N as a 16-bit fraction, 65,535 for all.
@@ -68,12 +86,13 @@ pub fn judge(trace: &[u8], batch: u32, threshold: u32) -> Judged
 
 // The effective loss of an accepted trace.
 fn loss_of(event: Event, s: &[u8], batch: usize, threshold: usize) -> EffectiveLoss
-    requires { ⌜ (1 ≤ batch) × (batch ≤ length (now s)) × (length (now s) ≤ traceMax) ⌝ }
+    requires { ⌜ (batch ≤ length (now s)) × (length (now s) ≤ traceMax) ⌝ }
     ensures { λ r. ⌜ r ≡ lossOf (countedAt event (now (s .entry))) (length (now (s .entry))) batch threshold ⌝ }
 {
     let batches = s.len() - batch + 1;
-    let first = first_over(event, s, batch, threshold);
-    let over = over_count(event, s, batch, threshold, first);
+    let reached = first_over(event, s, batch, threshold);
+    let first = reached.first;
+    let over = over_count(event, s, batch, threshold, reached);
     EffectiveLoss {
         over: over,
         batches: batches,
@@ -82,76 +101,180 @@ fn loss_of(event: Event, s: &[u8], batch: usize, threshold: usize) -> EffectiveL
     }
 }
 
-// The first batch over the threshold: batch by batch, and in a batch packet by packet, until one is known.
-fn first_over(event: Event, s: &[u8], batch: usize, threshold: usize) -> First
-    requires { ⌜ (1 ≤ batch) × (batch ≤ length (now s)) ⌝ }
-    ensures { λ r. ⌜ r ≡ firstOver (countedAt event (now (s .entry))) (length (now (s .entry))) batch threshold ⌝ }
+// The first batch over the threshold. The running count gains the packet that enters and drops the one that leaves. Strides in
+// which no batch can be over are passed by; the next goes packet by packet, until a batch is over.
+fn first_over(event: Event, s: &[u8], batch: usize, threshold: usize) -> Reached
+    requires { ⌜ batch ≤ length (now s) ⌝ }
+    ensures first { λ r. ⌜ r .first ≡ firstOver (countedAt event (now (s .entry))) (length (now (s .entry))) batch threshold ⌝ }
+    ensures losses { λ r. ⌜ ((k : ℕ) → r .first ≡ At k → r .losses ≡ lossesIn (countedAt event (now (s .entry))) batch k) ⌝ }
 {
-    let mut found = First::None;
-    let mut k = 0;
-    'batches: while k + batch <= s.len() {
-        let mut losses = 0;
-        let mut i = 0;
-        while i < batch {
-            losses += counted(event, s[k + i]);
+    let last = s.len() - batch;
+    let mut losses = first_losses(event, s, batch);
+    if threshold < losses {
+        return Reached {
+            first: First::At(0),
+            losses,
+        };
+    }
+    let mut first = First::None;
+    let mut start = 0;
+    'batches: while start < last {
+        let passed = pass_under(event, s, batch, threshold, Running { start, losses });
+        start = passed.start;
+        losses = passed.losses;
+        let end = stride_end(start, last);
+        while start < end {
+            losses = losses + counted(event, s[start + batch]) - counted(event, s[start]);
+            start += 1;
             if threshold < losses {
-                found = First::At(k);
+                first = First::At(start);
                 break 'batches;
             }
-            i += 1;
         }
-        k += 1;
     }
-    found
+    Reached { first, losses }
 }
 
-// How many batches are over the threshold. None before the first is, so they are counted from there.
-fn over_count(event: Event, s: &[u8], batch: usize, threshold: usize, first: First) -> usize
-    requires { ⌜ (1 ≤ batch) × (batch ≤ length (now s)) × (first ≡ firstOver (countedAt event (now s)) (length (now s)) batch threshold) ⌝ }
+// Goes on from a batch that is not over, by whole strides, as long as what enters cannot take a batch over the threshold.
+fn pass_under(event: Event, s: &[u8], batch: usize, threshold: usize, from: Running) -> Running
+    requires { ⌜ (from .start + batch ≤ length (now s)) × (from .losses ≡ lossesIn (countedAt event (now s)) batch (from .start)) × (from .losses ≤ threshold) ⌝ }
+    ensures place { λ r. ⌜ (from .start ≤ r .start) × (r .start + batch ≤ length (now (s .entry))) ⌝ }
+    ensures losses { λ r. ⌜ r .losses ≡ lossesIn (countedAt event (now (s .entry))) batch (r .start) ⌝ }
+    ensures under { λ r. ⌜ ((j : ℕ) → from .start ≤ j → j ≤ r .start → lossesIn (countedAt event (now (s .entry))) batch j ≤ threshold) ⌝ }
+{
+    let last = s.len() - batch;
+    let mut start = from.start;
+    let mut losses = from.losses;
+    while start + STRIDE <= last {
+        let entering = losses_among(event, s, start + batch, STRIDE);
+        if threshold < losses + entering {
+            break;
+        }
+        losses = losses + entering - losses_among(event, s, start, STRIDE);
+        start += STRIDE;
+    }
+    Running { start, losses }
+}
+
+// Where the stride after batch k ends: no further than the last batch.
+fn stride_end(k: usize, last: usize) -> usize
+    requires { ⌜ k ≤ last ⌝ }
+    ensures { λ r. ⌜ r ≡ min (k + stride) last ⌝ }
+{
+    if STRIDE < last - k { k + STRIDE } else { last }
+}
+
+// How many batches are over the threshold. None before the first is, so the count goes on from there.
+fn over_count(event: Event, s: &[u8], batch: usize, threshold: usize, reached: Reached) -> usize
+    requires { ⌜ (batch ≤ length (now s)) × (reached .first ≡ firstOver (countedAt event (now s)) (length (now s)) batch threshold) × ((k : ℕ) → reached .first ≡ At k → reached .losses ≡ lossesIn (countedAt event (now s)) batch k) ⌝ }
     ensures { λ r. ⌜ r ≡ overCount (countedAt event (now (s .entry))) (length (now (s .entry))) batch threshold ⌝ }
 {
+    let first = reached.first;
+    let losses = reached.losses;
     match first {
-        First::At(k) => over_from(event, s, batch, threshold, k),
+        First::At(start) => 1 + over_after(event, s, batch, threshold, Running { start, losses }),
         First::None => 0,
     }
 }
 
-// How many batches from batch `start` on are over the threshold.
-fn over_from(event: Event, s: &[u8], batch: usize, threshold: usize, start: usize) -> usize
-    requires { ⌜ (1 ≤ batch) × (start + batch ≤ length (now s)) ⌝ }
-    ensures { λ r. ⌜ r ≡ count (isOver (countedAt event (now (s .entry))) batch threshold) start (batches (length (now (s .entry))) batch - start) ⌝ }
+// How many batches after a batch are over the threshold, stride by stride.
+fn over_after(event: Event, s: &[u8], batch: usize, threshold: usize, from: Running) -> usize
+    requires { ⌜ (from .start + batch ≤ length (now s)) × (from .losses ≡ lossesIn (countedAt event (now s)) batch (from .start)) ⌝ }
+    ensures { λ r. ⌜ r ≡ count (isOver (countedAt event (now (s .entry))) batch threshold) (from .start + 1) (length (now (s .entry)) - batch - from .start) ⌝ }
 {
-    let mut n = 0;
-    let mut m = start;
-    while m + batch <= s.len() {
-        if threshold < losses_in(event, s, batch, m) {
-            n += 1;
-        }
-        m += 1;
+    let last = s.len() - batch;
+    let mut over = 0;
+    let mut start = from.start;
+    let mut losses = from.losses;
+    while start + STRIDE <= last {
+        let entering = losses_among(event, s, start + batch, STRIDE);
+        let leaving = losses_among(event, s, start, STRIDE);
+        let at = Running { start, losses };
+        over += over_in_stride(event, s, batch, threshold, at, entering, leaving);
+        losses = losses + entering - leaving;
+        start += STRIDE;
     }
-    n
+    over + over_between(event, s, batch, threshold, Running { start, losses }, last)
 }
 
-// The losses in the batch that begins at packet k.
-fn losses_in(event: Event, s: &[u8], batch: usize, k: usize) -> usize
-    requires { ⌜ k + batch ≤ length (now s) ⌝ }
-    ensures { λ r. ⌜ r ≡ lossesIn (countedAt event (now (s .entry))) batch k ⌝ }
+// How many batches of the stride after a batch are over the threshold: none, where what enters cannot take one there; all,
+// where what leaves cannot take one back.
+fn over_in_stride(
+    event: Event,
+    s: &[u8],
+    batch: usize,
+    threshold: usize,
+    from: Running,
+    entering: usize,
+    leaving: usize,
+) -> usize
+    requires { ⌜ (from .start + stride + batch ≤ length (now s)) × (from .losses ≡ lossesIn (countedAt event (now s)) batch (from .start)) × (entering ≡ count (countedAt event (now s)) (from .start + batch) stride) × (leaving ≡ count (countedAt event (now s)) (from .start) stride) ⌝ }
+    ensures { λ r. ⌜ r ≡ count (isOver (countedAt event (now (s .entry))) batch threshold) (from .start + 1) stride ⌝ }
 {
-    let mut n = 0;
+    if from.losses + entering <= threshold {
+        return 0;
+    }
+    if threshold + leaving < from.losses {
+        return STRIDE;
+    }
+    over_between(event, s, batch, threshold, from, from.start + STRIDE)
+}
+
+// How many batches after a batch, up to batch `end`, are over the threshold, packet by packet. Nothing here branches on a
+// packet.
+fn over_between(
+    event: Event,
+    s: &[u8],
+    batch: usize,
+    threshold: usize,
+    from: Running,
+    end: usize,
+) -> usize
+    requires { ⌜ (from .start ≤ end) × (end + batch ≤ length (now s)) × (from .losses ≡ lossesIn (countedAt event (now s)) batch (from .start)) ⌝ }
+    ensures { λ r. ⌜ r ≡ count (isOver (countedAt event (now (s .entry))) batch threshold) (from .start + 1) (end - from .start) ⌝ }
+{
+    let mut over = 0;
+    let mut k = from.start;
+    let mut losses = from.losses;
+    while k < end {
+        losses = losses + counted(event, s[k + batch]) - counted(event, s[k]);
+        k += 1;
+        over += (threshold < losses) as usize;
+    }
+    over
+}
+
+// The losses in the first batch, stride by stride.
+fn first_losses(event: Event, s: &[u8], batch: usize) -> usize
+    requires { ⌜ batch ≤ length (now s) ⌝ }
+    ensures { λ r. ⌜ r ≡ lossesIn (countedAt event (now (s .entry))) batch 0 ⌝ }
+{
+    let mut losses = 0;
+    let mut i = 0;
+    while i + STRIDE <= batch {
+        losses += losses_among(event, s, i, STRIDE);
+        i += STRIDE;
+    }
+    losses + losses_among(event, s, i, batch - i)
+}
+
+// The losses among n packets from packet i on, no more than a stride of them.
+fn losses_among(event: Event, s: &[u8], i: usize, n: usize) -> usize
+    requires { ⌜ (n ≤ stride) × (i + n ≤ length (now s)) ⌝ }
+    ensures { λ r. ⌜ r ≡ count (countedAt event (now (s .entry))) i n ⌝ }
+{
+    let mut losses = 0u8;
     let mut j = 0;
-    while j < batch {
-        n += counted(event, s[k + j]);
+    while j < n {
+        losses += counted(event, s[i + j]) as u8;
         j += 1;
     }
-    n
+    losses as usize
 }
 
 // 1 for a counted packet and 0 for any other.
 fn counted(event: Event, packet: u8) -> usize
     ensures { λ r. ⌜ r ≡ bit (countsAs event packet) ⌝ }
 {
-    if trace::counts(event, packet) {
-        return 1;
-    }
-    0
+    trace::counts(event, packet) as usize
 }

@@ -1,12 +1,11 @@
--- Laws of sums over positions: none and one, the step, the cut, a part, two sums compared position by position, and
--- the sum of tests, where none passes and where all do. Every window of a trace is a difference of two sums from 0, so
--- that what is said of windows is plain arithmetic. Assumes nothing.
+-- Laws of sums over positions: none and one, the cut, a part, two sums compared position by position, and the sum of
+-- tests, where none passes and where all do. Every window of a trace is a difference of two sums from 0, so that what is
+-- said of windows is plain arithmetic. Assumes nothing.
 use Prim.Native.Nat.{ℕ, zero, suc, _+_, _-_, _<_, _≤_}
 use mathlib.Core.Path.{_≡_, refl, ap, _∙_}
 use mathlib.Core.Bool.{Bool, true, false}
 use native.Mathlib.Omega.{arith}
 use native.Mathlib.Nat.{add-suc, add-zero, zero-add, add-assoc}
-use native.Mathlib.Numerals.{add-one}
 use Rattle.trace.specs.Sum.{sum, bit, bits, count}
 
 pub bit-le : (b : Bool) → bit b ≤ 1
@@ -22,10 +21,6 @@ module _ (f : ℕ → ℕ) (start : ℕ) where
   pub sum-one : sum f start 1 ≡ f start
   unfolding sum
   sum-one = rw add-zero (omega arith)
-
-  pub sum-step : (n : ℕ) → sum f start (n + 1) ≡ sum f start n + f (start + n)
-  unfolding sum
-  sum-step n = rw add-one
 
   pub sum-cut : (m n : ℕ) → sum f start (m + n) ≡ sum f start m + sum f (start + m) n
   unfolding sum

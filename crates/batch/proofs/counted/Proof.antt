@@ -1,5 +1,7 @@
 -- `batch::counted` meets its contract: the test as a bit. Assumes nothing.
+use mathlib.Core.Path.{ap, _∙_}
 use Rattle.trace.specs.Sum.{bit}
+use Rattle.batch.proofs.Loops.{bool-bit}
 use borrow.Author.Needs.{needs}
 use Rattle.batch.proofs.counted.Statement.{statement}
 use Rattle.batch.proofs.counted.Tie as tie
@@ -7,13 +9,11 @@ use Rattle.batch.proofs.counted.Tie as tie
 counts-requires : tie.Need-counts-requires
 counts-requires c κs = search needs
 
-returns : tie.Need-returns
-unfolding bit
-returns c = rw (← c .before .counts .ensures, c .if1 .taken)
+cast-result : tie.Need-cast-result
+cast-result c = search needs
 
-returns-2 : tie.Need-returns-2
-unfolding bit
-returns-2 c = rw (← c .before .counts .ensures, c .if1 .left)
+returns : tie.Need-returns
+returns c = bool-bit _ ∙ ap bit (c .counts .ensures)
 
 pub counted-spec : {M : Type 1} → statement M
-counted-spec = tie.close (tie.spec counts-requires returns returns-2)
+counted-spec = tie.close (tie.spec counts-requires cast-result returns)

@@ -2,8 +2,6 @@
 use mathlib.Core.Path.{_≡_, sym, _∙_}
 use lib.ListN.{length}
 use Rattle.refusal.specs.declared.Judged.the-variants.{Accepted}
-use Rattle.settings.specs.Ranges.{limits}
-use Rattle.settings.proofs.Bounds.{batch}
 use Rattle.trace.specs.Trace.{judged}
 use Rattle.trace.proofs.Judging.{accepted-trace}
 use Rattle.batch.specs.Judging.{judgedFor}
@@ -26,7 +24,7 @@ taken : (c : tie.After-enum-told) →
 taken c = sym (c .before .before .judge .ensures) ∙ c .enum-told .given .1
 
 loss-of-requires : tie.Need-loss-of-requires
-loss-of-requires c κs = let f = fit _ _ _ _ (taken c) in (batch limits _ _ (f .range) .first .least, f .within, accepted-trace _ (f .good) .most)
+loss-of-requires c κs = let f = fit _ _ _ _ (taken c) in (f .within, accepted-trace _ (f .good) .most)
 
 enum-known-r : tie.Need-enum-known-r
 enum-known-r c = search needs

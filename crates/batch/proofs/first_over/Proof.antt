@@ -1,47 +1,69 @@
--- `batch::first_over` meets its contract. The invariant of the loop over batches is `Sought`; that of the loop over
--- packets is `Part`, with the losses so far within the threshold. Assumes nothing.
-use Prim.Native.Nat.{_+_, _-_, _≤_}
+-- `batch::first_over` meets its contract. The invariant of both loops is `Under`, from the first batch on. Assumes nothing.
+use Prim.Native.Nat.{_-_, _≤_}
 use mathlib.Core.Path.{_≡_, refl}
 use native.Mathlib.Omega.{arith}
 use borrow.Author.Needs.{needs}
 use lib.ListN.{length}
 use Rattle.trace.specs.Trace.{countedAt}
 use Rattle.trace.proofs.Sums.{bit-le}
-use Rattle.batch.specs.Batches.{batches}
-use Rattle.batch.proofs.Loops.{Part, part-none, part-more, part-small, part-over, part-under, Sought, sought-none, sought-more, sought-here, sought-all}
+use Rattle.batch.specs.declared.First.the-variants.{None}
+use Rattle.batch.proofs.Sliding.{Slid, slid-one}
+use Rattle.batch.proofs.Loops.{Under, under-first, under-more, under-next, under-small, under-here, handed-here, handed-next, handed-none}
 use Rattle.batch.proofs.first_over.Statement.{statement}
 use Rattle.batch.proofs.first_over.Tie as tie
 
 abbrev Inv-loop : tie.InvT-loop
-Inv-loop event s batch threshold found₀ k losses₀ i₀ found losses i = Part (countedAt event s) batch k losses i × (losses ≤ threshold) × (found ≡ found₀)
+Inv-loop event s batch threshold last losses₀ first₀ start₀ end losses first start = Under (countedAt event s) (length s) batch threshold 0 losses start × (first ≡ None) × (start ≤ end)
 
 abbrev μ-loop : tie.MeasureT-loop
-μ-loop event s batch threshold found₀ k losses₀ i₀ found losses i = batch - i
+μ-loop event s batch threshold last losses₀ first₀ start₀ end losses first start = end - start
 
 abbrev Inv-batches : tie.InvT-batches
-Inv-batches event s batch threshold found₀ k₀ found k = Sought (countedAt event s) (length s) batch threshold found k
+Inv-batches event s batch threshold last losses₀ first₀ start₀ losses first start = Under (countedAt event s) (length s) batch threshold 0 losses start × (first ≡ None)
 
 abbrev μ-batches : tie.MeasureT-batches
-μ-batches event s batch threshold found₀ k₀ found k = batches (length s) batch - k
+μ-batches event s batch threshold last losses₀ first₀ start₀ losses first start = last - start
 
--- the losses so far, and one more packet
-small : (c : tie.After-counted Inv-loop μ-loop Inv-batches μ-batches) → (c .before .before .before .loop .losses ≤ c .before .before .before .loop .i) × (c .counted .result ≤ 1)
-small c = (part-small _ _ _ _ _ (c .before .before .before .loop .inv .0), rw (c .counted .ensures) (bit-le _))
+-- a packet counts once
+one : (c : tie.After-counted Inv-loop μ-loop Inv-batches μ-batches) → c .counted .result ≤ 1
+one c = rw (c .counted .ensures) (bit-le _)
 
-more : (c : tie.After-counted Inv-loop μ-loop Inv-batches μ-batches) →
-    Part (countedAt (c .before .before .before .before .before .before .before .args .event) (c .before .before .before .before .before .before .before .args .s .now))
-    (c .before .before .before .before .before .before .before .args .batch) (c .before .before .before .before .before .batches .k)
-    (c .before .before .before .loop .losses + c .counted .result) (c .before .before .before .loop .i + 1)
-more c = part-more _ _ _ _ _ (c .before .before .before .loop .inv .0) (omega arith) _ (c .counted .ensures)
+-- the count of the next batch
+abbrev moved : (c : tie.After-counted2 Inv-loop μ-loop Inv-batches μ-batches) →
+    let a = c .before .before .before .before .before .before .before .before .before .before .before .before .before .args in
+    let l = c .before .before .before .before .before .loop in
+    Slid (countedAt (a .event) (a .s .now)) (a .batch) (l .start) 1 (l .losses) (c .before .before .counted .result) (c .counted2 .result)
+moved c = slid-one _ _ _ _ (c .before .before .before .before .before .loop .inv .0 .losses) _ _ (c .before .before .counted .ensures) (c .counted2 .ensures)
+
+sub-last : tie.Need-sub-last Inv-loop μ-loop Inv-batches μ-batches
+sub-last c = omega arith
+
+first-losses-requires : tie.Need-first-losses-requires Inv-loop μ-loop Inv-batches μ-batches
+first-losses-requires c κs = search needs
+
+returns : tie.Need-returns Inv-loop μ-loop Inv-batches μ-batches
+returns c = handed-here _ _ _ _ 0 _ (omega arith) (c .before .first-losses .ensures) (omega arith) (λ j l. absurd (omega arith))
 
 batches-holds : tie.Need-batches-holds Inv-loop μ-loop Inv-batches μ-batches
-batches-holds c = sought-none _ _ _ _
+batches-holds c = (under-first _ _ _ _ _ _ (omega arith) (c .before .first-losses .ensures) (omega arith), refl)
 
-add-batches : tie.Need-add-batches Inv-loop μ-loop Inv-batches μ-batches
-add-batches c = omega arith
+pass-under-requires : tie.Need-pass-under-requires Inv-loop μ-loop Inv-batches μ-batches
+pass-under-requires c κs = let u = c .before .batches .inv .0 in (u .within, u .losses, under-here _ _ _ _ _ _ _ u (omega arith))
+
+stride-end-requires : tie.Need-stride-end-requires Inv-loop μ-loop Inv-batches μ-batches
+stride-end-requires c κs = omega (arith, c .pass-under .ensures .0)
 
 loop-holds : tie.Need-loop-holds Inv-loop μ-loop Inv-batches μ-batches
-loop-holds c = (part-none _ _ _, omega arith, refl)
+loop-holds c =
+    let r = c .before .pass-under .ensures in
+    let inv = c .before .before .before .batches .inv in
+    (under-more _ _ _ _ _ _ _ (inv .0) _ _ (r .0 .1) (r .1 .0) (λ j l w. r .1 .1 j (omega arith) w), inv .1, omega arith)
+
+batches-less : tie.Need-batches-less Inv-loop μ-loop Inv-batches μ-batches
+batches-less c = omega arith
+
+batches-again : tie.Need-batches-again Inv-loop μ-loop Inv-batches μ-batches
+batches-again c = (c .before .loop .inv .0, c .before .loop .inv .1)
 
 add-counted : tie.Need-add-counted Inv-loop μ-loop Inv-batches μ-batches
 add-counted c = omega arith
@@ -54,34 +76,34 @@ counted-requires : tie.Need-counted-requires Inv-loop μ-loop Inv-batches μ-bat
 counted-requires c κs = search needs
 
 add-losses : tie.Need-add-losses Inv-loop μ-loop Inv-batches μ-batches
-add-losses c = omega (arith, small c)
+add-losses c = omega (arith, under-small _ _ _ _ _ _ _ (c .before .before .before .loop .inv .0), one c)
 
-add-i : tie.Need-add-i Inv-loop μ-loop Inv-batches μ-batches
-add-i c = omega arith
+shared-slice-read-counted-2 :
+    tie.Need-shared-slice-read-counted-2 Inv-loop μ-loop Inv-batches μ-batches
+shared-slice-read-counted-2 c = omega arith
+
+counted-requires-2 : tie.Need-counted-requires-2 Inv-loop μ-loop Inv-batches μ-batches
+counted-requires-2 c κs = search needs
+
+sub-losses : tie.Need-sub-losses Inv-loop μ-loop Inv-batches μ-batches
+sub-losses c = omega (arith, moved c .enough)
+
+add-start : tie.Need-add-start Inv-loop μ-loop Inv-batches μ-batches
+add-start c = omega arith
+
+loop-again : tie.Need-loop-again Inv-loop μ-loop Inv-batches μ-batches
+loop-again c =
+    let inv = c .before .before .before .before .before .before .loop .inv in
+    (under-next _ _ _ _ _ _ _ (inv .0) _ (omega arith) (moved (c .before) .value) (omega arith), inv .1, omega arith)
 
 loop-less : tie.Need-loop-less Inv-loop μ-loop Inv-batches μ-batches
 loop-less c = omega arith
 
-loop-again : tie.Need-loop-again Inv-loop μ-loop Inv-batches μ-batches
-loop-again c = (more (c .before), omega arith, c .before .before .before .before .loop .inv .2)
-
-add-k : tie.Need-add-k Inv-loop μ-loop Inv-batches μ-batches
-add-k c = omega arith
-
-batches-less : tie.Need-batches-less Inv-loop μ-loop Inv-batches μ-batches
-batches-less c = omega arith
-
-batches-again : tie.Need-batches-again Inv-loop μ-loop Inv-batches μ-batches
-batches-again c =
-    sought-more _ _ _ _ _ _ (c .before .before .before .batches .inv) _ (c .before .loop .inv .2) (omega arith) (part-under _ _ _ _ _ (c .before .loop .inv .0) _ (omega arith) (c .before .loop .inv .1))
-
-returns : tie.Need-returns Inv-loop μ-loop Inv-batches μ-batches
-returns c = sought-all _ _ _ _ _ _ (c .before .batches .inv) (omega arith)
-
 returns-2 : tie.Need-returns-2 Inv-loop μ-loop Inv-batches μ-batches
-returns-2 c =
-    let inv = c .before .before .before .before .before .before .batches .inv in
-    sought-here _ _ _ _ _ _ inv (omega arith) (part-over _ _ _ _ _ (more (c .before)) _ (omega arith))
+returns-2 c = handed-none _ _ _ _ _ _ (c .before .batches .inv .0) _ (c .before .batches .inv .1) (omega arith)
+
+returns-3 : tie.Need-returns-3 Inv-loop μ-loop Inv-batches μ-batches
+returns-3 c = handed-next _ _ _ _ _ _ (c .before .before .before .before .before .before .loop .inv .0) _ (omega arith) (moved (c .before) .value) (omega arith)
 
 pub first-over-spec : {M : Type 1} → statement M
 first-over-spec =
@@ -91,18 +113,24 @@ first-over-spec =
     μ-loop
     Inv-batches
     μ-batches
+    sub-last
+    first-losses-requires
+    returns
     batches-holds
-    add-batches
+    pass-under-requires
+    stride-end-requires
     loop-holds
+    batches-less
+    batches-again
     add-counted
     shared-slice-read-counted
     counted-requires
     add-losses
-    add-i
+    shared-slice-read-counted-2
+    counted-requires-2
+    sub-losses
+    add-start
     loop-less
     loop-again
-    add-k
-    batches-less
-    batches-again
-    returns
-    returns-2)
+    returns-2
+    returns-3)
