@@ -4,6 +4,7 @@ mod support;
 
 use independent::effective::EffectiveLoss;
 use support::{
+    answers::Answer,
     batches::{
         all_settings, all_traces, bursty_losses, digits, loss_both, random_losses, random_settings,
         random_trace, refusal, LONGEST, SETTINGS,
@@ -113,6 +114,51 @@ fn batch_as_long_as_the_trace() {
             let longer = length as u32 + 1;
             assert_eq!(loss_both(&trace, longer, 0), Err((14, 0)));
         }
+    }
+}
+
+/// So many batches the library settles together.
+const STRIDE: usize = 64;
+
+/// After the first batch a stride of them, or two, and one fewer or more: the one batch that is over the
+/// threshold, or the one that is not, stands at every place.
+#[test]
+fn around_strides() {
+    let near = |length| [length - 1, length, length + 1];
+    for batch in [1, 2].into_iter().chain(near(STRIDE)) {
+        for after in near(STRIDE).into_iter().chain(near(2 * STRIDE)) {
+            for place in 0..=after {
+                let parts =
+                    |answer: Answer<EffectiveLoss>| answer.map(|loss| (loss.over, loss.first));
+                let mut one = vec![0; batch + after];
+                one[place..place + batch].fill(1);
+                let answer = loss_both(&one, batch as u32, batch as u32 - 1);
+                assert_eq!(parts(answer), Ok((1, Some(place))), "{batch} {after}");
+                let but_one: Vec<u8> = one.iter().map(|packet| 1 - packet).collect();
+                let first = usize::from(place == 0);
+                let answer = loss_both(&but_one, batch as u32, 0);
+                assert_eq!(
+                    parts(answer),
+                    Ok((after as u64, Some(first))),
+                    "{batch} {after} {place}"
+                );
+            }
+        }
+    }
+}
+
+/// The losses of every batch stay at the threshold, or one above it.
+#[test]
+fn losses_at_the_threshold() {
+    for (batch, lost) in [(2, 1), (10, 3), (100, 5), (130, 70)] {
+        let trace: Vec<u8> = (0..1_000)
+            .map(|place| u8::from(place % batch < lost))
+            .collect();
+        let batches = 1_001 - batch as u64;
+        let answer = loss_both(&trace, batch as u32, lost as u32);
+        assert_eq!(answer, Ok(loss(0, batches, 0, None)));
+        let answer = loss_both(&trace, batch as u32, lost as u32 - 1);
+        assert_eq!(answer, Ok(loss(batches, batches, 65_535, Some(0))));
     }
 }
 
