@@ -10,7 +10,7 @@ use super::{
 use independent::{effective, resend};
 use std::hint::black_box;
 
-/// Batch lengths, and a threshold that batches of that length often pass and often do not.
+/// Batch lengths, and a threshold that batches of that length often pass and often do not where 5 % are lost.
 const SETTINGS: [(u32, u32); 3] = [(1, 0), (100, 5), (1_024, 52)];
 
 pub fn time() {
@@ -19,17 +19,19 @@ pub fn time() {
         ("5 % lost", random_losses(&mut random, LONGEST, 5, 0)),
         ("bursty", bursty_losses(&mut random, LONGEST)),
         ("all lost", vec![1; LONGEST]),
+        ("none lost", vec![0; LONGEST]),
     ];
     for (name, trace) in &traces {
         for settings in SETTINGS {
             time_plan(name, trace, settings);
         }
-        time_longest_batch(name, trace);
+        time_longest_plan(name, trace);
     }
     for (name, trace) in &traces {
         for settings in SETTINGS {
             time_loss(name, trace, settings);
         }
+        time_longest_loss(name, trace);
     }
 }
 
@@ -47,16 +49,20 @@ fn time_plan(name: &str, trace: &[u8], (batch, threshold): (u32, u32)) {
     print(&name, LONGEST, "plan", times);
 }
 
-/// Ours with the longest batch beside ours with the shortest.
-fn time_longest_batch(name: &str, trace: &[u8]) {
+/// Our plan with the longest batch beside ours with the shortest.
+fn time_longest_plan(name: &str, trace: &[u8]) {
     let [shortest, _, longest] = SETTINGS;
     let (mut first, mut second) = (vec![0; LONGEST], vec![0; LONGEST]);
     let times = race(
         || nuvaskoe::resend::plan(black_box(trace), longest.0, longest.1, &mut first),
         || nuvaskoe::resend::plan(black_box(trace), shortest.0, shortest.1, &mut second),
     );
-    let name = format!("{name}, B {} by B {}", longest.0, shortest.0);
-    print(&name, LONGEST, "plan", times);
+    print(&by_name(name), LONGEST, "plan", times);
+}
+
+fn by_name(name: &str) -> String {
+    let [(shortest, _), _, (longest, _)] = SETTINGS;
+    format!("{name}, B {longest} by B {shortest}")
 }
 
 fn time_loss(name: &str, trace: &[u8], (batch, threshold): (u32, u32)) {
@@ -68,4 +74,14 @@ fn time_loss(name: &str, trace: &[u8], (batch, threshold): (u32, u32)) {
     );
     let name = format!("{name}, B {batch}, T {threshold}");
     print(&name, LONGEST, "loss", times);
+}
+
+/// Our effective loss with the longest batch beside ours with the shortest.
+fn time_longest_loss(name: &str, trace: &[u8]) {
+    let [shortest, _, longest] = SETTINGS;
+    let times = race(
+        || nuvaskoe::effective::effective_loss(black_box(trace), longest.0, longest.1),
+        || nuvaskoe::effective::effective_loss(black_box(trace), shortest.0, shortest.1),
+    );
+    print(&by_name(name), LONGEST, "loss", times);
 }
