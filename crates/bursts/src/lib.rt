@@ -55,7 +55,10 @@ pub const OVER_RANGE: u16 = 65_534;
 pub fn sound(s: Sums) -> bool
     ensures { λ r. ⌜ r ≡ sumsSound s ⌝ }
 {
-    counts_sound(s) & durations_sound(s)
+    if !counts_sound(s) {
+        return false;
+    }
+    durations_sound(s)
 }
 
 // The figures of sums.
