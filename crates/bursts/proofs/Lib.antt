@@ -3,6 +3,7 @@ pub mod Grouping
 pub mod Shifted
 pub mod Positions
 pub mod Soundness
+pub mod Spread
 pub mod TraceSums
 pub mod Cases
 pub mod Availability

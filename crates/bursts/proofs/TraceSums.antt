@@ -1,12 +1,11 @@
 -- The sums of every trace are sound: `Sums-sound` of specs/Laws.antt. Packets and events are compared by position, the sums
 -- over bursts burst by burst. Assumes nothing.
-use Prim.Native.Nat.{ℕ, zero, suc, _+_, _-_, _*_, _/_, _<_, _≤_}
+use Prim.Native.Nat.{ℕ, suc, _+_, _-_, _*_, _/_, _<_, _≤_}
 use mathlib.Core.Path.{_≡_, refl, sym, ap, _∙_}
 use mathlib.Core.Bool.{Bool, true, false, cond, _&&_, not}
 use mathlib.Core.List.{List, [], _∷_}
 use native.Mathlib.Omega.{arith}
-use native.Mathlib.Decide.{decLe}
-use native.Mathlib.Nat.{mul-comm, mul-add, add-mul, mul-assoc, mul-left-comm, mul-le-mul, mul-le-mul-right, le-of-mul-le-mul-left, mul-div-le, le-div-iff-mul-le, zero-mul, suc-mul}
+use native.Mathlib.Nat.{mul-comm, add-mul, mul-assoc, mul-le-mul, mul-le-mul-right, le-of-mul-le-mul-left, mul-div-le, le-div-iff-mul-le, zero-mul}
 use borrow.Author.Tests.{leb-true}
 use lib.ListN.{length}
 use Rattle.refusal.proofs.Tests.{both}
@@ -16,47 +15,16 @@ use Rattle.trace.specs.Sum.{bit, bits}
 use Rattle.trace.specs.Trace.{traceMax}
 use Rattle.trace.proofs.Sums.{sum-both, count-all}
 use Rattle.bursts.specs.declared.Sums.{Sums}
-use Rattle.bursts.specs.Groups.{eventsAt, Group, lastOf, groups, burstMin, isBurst, burstsOf, packetsOf, duration, square, total}
+use Rattle.bursts.specs.Groups.{eventsAt, Group, lastOf, groups, burstMin, isBurst, burstsOf, packetsOf, duration, lasts, square, total}
 use Rattle.bursts.specs.Sums.{sumsOver, sumsOf, countsSound, durationsSound, sumsSound}
 use Rattle.bursts.specs.Grouping.{isEvent, inBurst, eventsIn}
 use Rattle.bursts.specs.Laws.{Sums-sound}
 use Rattle.bursts.proofs.Groups.{AllSome, groups-some}
 use Rattle.bursts.proofs.Positions.{Rising, Cut, cut, cut-dense, groups-rise, sums-counted}
+use Rattle.bursts.proofs.Spread.{square-add, spread-pairs}
 use Rattle.bursts.proofs.Soundness.{Counts, Durations, counts-sound, durations-sound}
 
--- squares of sums
-square-add : (a b : ℕ) → square (a + b) ≡ square a + 2 * (a * b) + square b
-square-add a b =
-    let e : (a + b) * (a + b) ≡ a * a + b * a + (a * b + b * b) = mul-add (a + b) a b ∙ rw (add-mul a b a, add-mul a b b) in
-    let c = mul-comm a b in
-    omega arith
-
-twice : (a b : ℕ) → 2 * (a * b) ≤ square a + square b
-twice a b = go (decLe a b)
-  where
-    up : (a k : ℕ) → 2 * (a * (a + k)) ≤ square a + square (a + k)
-    up a k = let e = square-add a k in let f = mul-add a a k in omega arith
-
-    go : Dec (a ≤ b) → 2 * (a * b) ≤ square a + square b
-    go (yes l) = let e : b ≡ a + (b - a) = omega arith in rw e (up a (b - a))
-    go (no g) = let e : a ≡ b + (a - b) = omega arith in let u = up b (a - b) in rw (e, mul-comm (b + (a - b)) b) (omega arith)
-
--- S × S ≤ n × Q is kept by one more square
-cross : (S n Q d : ℕ) → square S ≤ n * Q → 2 * (S * d) ≤ n * square d + Q
-cross zero n Q d h = let e = zero-mul d in omega arith
-cross (suc S) zero Q d h = let e = suc-mul S (suc S) in let f = zero-mul Q in absurd (omega arith)
-cross (suc S) (suc n) Q d h = le-of-mul-le-mul-left {k = suc n} scaled (omega arith)
-  where
-    left : suc n * (2 * (suc S * d)) ≡ 2 * (suc S * (suc n * d))
-    left = mul-left-comm (suc n) 2 (suc S * d) ∙ ap (λ (x : ℕ). 2 * x) (mul-left-comm (suc n) (suc S) d)
-
-    right : square (suc n * d) ≡ suc n * (suc n * square d)
-    right = mul-assoc (suc n) d (suc n * d) ∙ ap (λ (x : ℕ). suc n * x) (mul-left-comm d (suc n) d)
-
-    scaled : suc n * (2 * (suc S * d)) ≤ suc n * (suc n * square d + Q)
-    scaled = let t = twice (suc S) (suc n * d) in let e = mul-add (suc n) (suc n * square d) Q in omega arith
-
--- so that the square of the mean is not above the mean of the squares
+-- the square of the mean is not above the mean of the squares
 mean-square : (S n Q : ℕ) → square S ≤ n * Q → 0 < n → square (S / n) ≤ Q / n
 mean-square S n Q h some = le-div-iff-mul-le some .1 (le-of-mul-le-mul-left {k = n} scaled some)
   where
@@ -75,7 +43,6 @@ record Fair (spacing packets events bursts durations squares : ℕ) : Type 0 whe
   pub pairs : 2 * bursts ≤ packets
   pub long : 1000 * durations ≤ packets * spacing
   pub squares-most : squares ≤ square durations
-  pub spread : square durations ≤ bursts * squares
 
 fair-more : (spacing packets events bursts durations squares p e : ℕ) → Fair spacing packets events bursts durations squares →
     burstMin ≤ e → e ≤ p →
@@ -86,21 +53,17 @@ fair-more spacing packets events bursts durations squares p e f many dense =
     let lasts = mul-div-le (p * spacing) 1000 in
     let wide = add-mul p packets spacing in
     let sum = square-add d durations in
-    let same = mul-comm d durations in
-    let more = cross durations bursts squares d (f .spread) in
-    let product = suc-mul bursts (square d + squares) in
-    let product′ = mul-add bursts (square d) squares in
-    record { dense = omega arith; pairs = omega arith; long = omega arith; squares-most = omega arith; spread = omega arith }
+    record { dense = omega arith; pairs = omega arith; long = omega arith; squares-most = omega arith }
 
 abbrev FairOver : ℕ → List Group → Type 0
 FairOver spacing bs =
-    Fair spacing (total packetsOf bs) (total length bs) (length bs) (total (λ b. duration spacing (packetsOf b)) bs) (total (λ b. square (duration spacing (packetsOf b))) bs)
+    Fair spacing (total packetsOf bs) (total length bs) (length bs) (total (lasts spacing) bs) (total (λ b. square (lasts spacing b)) bs)
 
 fair : (spacing lo hi : ℕ) (gs : List Group) → AllSome gs → Rising lo hi (eventsIn gs) → FairOver spacing (burstsOf gs)
 unfolding AllSome eventsIn burstsOf total
 fair spacing lo hi [] some order =
     let none = zero-mul spacing in
-    record { dense = omega arith; pairs = omega arith; long = omega arith; squares-most = omega arith; spread = omega arith }
+    record { dense = omega arith; pairs = omega arith; long = omega arith; squares-most = omega arith }
 fair spacing lo hi (g ∷ gs) some order =
     go (isBurst g) refl (fair spacing (suc (lastOf g)) hi gs (some .1) (cut lo hi g (eventsIn gs) (some .0) order .rest))
   where
@@ -161,12 +124,13 @@ module _ (event : ℕ → Bool) (gmin spacing : ℕ) (s : List ℕ) where
     durations : Durations sums
     durations =
         let f = fair-sums in
+        let p = spread-pairs event gmin spacing s in
         let product = mul-le-mul {n₂ = traceMax} {m₂ = spacingMax} (counts .most) (burst gmin spacing range .second .most) in
         let inside = mul-le-mul-right spacing (counts .inside) in
         record {
           most = omega arith;
           squares = f .squares-most;
-          spread = λ some. mean-square (sums .durations) (sums .bursts) (sums .squares) (f .spread) (omega arith);
+          spread = λ some. mean-square (sums .durations) (sums .bursts) (sums .squares) (omega arith) (omega arith);
         }
 
 pub sums-sound : Sums-sound

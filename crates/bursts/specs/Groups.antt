@@ -73,6 +73,9 @@ inside (b ∷ bs) i = leb (firstOf b) i && leb i (lastOf b) || inside bs i
 unfoldable pub duration : ℕ → ℕ → ℕ
 duration spacing packets = packets * spacing / 1000
 
+abbrev pub lasts : ℕ → Group → ℕ
+lasts spacing b = duration spacing (packetsOf b)
+
 abbrev pub square : ℕ → ℕ
 square n = n * n
 

@@ -7,7 +7,7 @@ use lib.Dec.{eqb, leb}
 use lib.ListN.{length}
 use Rattle.trace.specs.Trace.{traceMax}
 use Rattle.bursts.specs.declared.Sums.{Sums}
-use Rattle.bursts.specs.Groups.{eventsAt, Group, groups, burstsOf, packetsOf, duration, square, total}
+use Rattle.bursts.specs.Groups.{eventsAt, Group, groups, burstsOf, packetsOf, lasts, square, total}
 
 -- the sums of E packets with these groups of L events
 unfoldable pub sumsOver : ℕ → ℕ → ℕ → List Group → Sums
@@ -18,8 +18,8 @@ sumsOver spacing E L gs =
       «burst_packets» = total packetsOf (burstsOf gs);
       «burst_events» = total length (burstsOf gs);
       bursts = length (burstsOf gs);
-      durations = total (λ b. duration spacing (packetsOf b)) (burstsOf gs);
-      squares = total (λ b. square (duration spacing (packetsOf b))) (burstsOf gs);
+      durations = total (lasts spacing) (burstsOf gs);
+      squares = total (λ b. square (lasts spacing b)) (burstsOf gs);
     }
 
 -- the sums of a trace
