@@ -362,7 +362,7 @@ typedef struct nuvaskoe_burst_figures {
     uint16_t burst_rate; /* 0 to 32,768, or 65,535 for unavailable */
     uint16_t gap_rate; /* 0 to 32,768, or 65,535 for unavailable */
     uint16_t burst_mean; /* milliseconds; 65,534 for over range, 65,535 for unavailable */
-    uint16_t burst_variance; /* the same two marks */
+    uint16_t burst_variance; /* square milliseconds, divided by the number of bursts (RFC 7004: by one less); the same two marks */
 } nuvaskoe_burst_figures;
 
 /* The answer of a call that measures. */

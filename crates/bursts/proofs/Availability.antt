@@ -1,6 +1,6 @@
 -- A figure is unavailable exactly where its denominator is 0, and no subtraction is cut off: `Figures-right` and
 -- `Sound-uncut` of specs/Laws.antt. Assumes nothing.
-use Prim.Native.Nat.{ℕ, _-_, _/_, _≤_}
+use Prim.Native.Nat.{ℕ, _-_, _≤_}
 use mathlib.Core.Path.{_≡_, refl, sym}
 use mathlib.Core.Bool.{Bool, true, false}
 use mathlib.Core.Logic.{inl, inr}
@@ -11,9 +11,8 @@ use Rattle.refusal.specs.Answer.{unless}
 use Rattle.block.specs.Reading.{rateMax, unavailable}
 use Rattle.bursts.specs.declared.Sums.{Sums}
 use Rattle.bursts.specs.declared.FiguresRead.the-variants.{Accepted, Refused}
-use Rattle.bursts.specs.Groups.{square}
-use Rattle.bursts.specs.Sums.{meanDuration, sumsSound}
-use Rattle.bursts.specs.Figures.{measureMax, overRange, rateOf, ranged, meanOf, varianceOf, figuresOf, measureOf}
+use Rattle.bursts.specs.Sums.{sumsSound}
+use Rattle.bursts.specs.Figures.{measureMax, overRange, rateOf, ranged, meanDuration, durationVariance, meanOf, varianceOf, figuresOf, measureOf}
 use Rattle.bursts.specs.Laws.{FigureSent, Right, Figures-right, Sound-uncut}
 use Rattle.bursts.proofs.Soundness.{sound-of}
 use Rattle.bursts.proofs.Cases.{no-rate, some-rate, rate-small, over-range, in-range, no-mean, some-mean, no-variance, some-variance}
@@ -58,7 +57,7 @@ right s h =
       durations =
           record {
             mean = measure-sent (meanOf s) (meanDuration s) (s .bursts) (no-mean s) (some-mean s);
-            variance = measure-sent (varianceOf s) (s .squares / s .bursts - square (meanDuration s)) (s .bursts) (no-variance s) (some-variance s);
+            variance = measure-sent (varianceOf s) (durationVariance s) (s .bursts) (no-variance s) (some-variance s);
           };
     }
 

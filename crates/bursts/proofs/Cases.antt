@@ -1,5 +1,5 @@
 -- The cases of a figure: unavailable, over range, or the number; and how large a rate is. Assumes nothing.
-use Prim.Native.Nat.{ℕ, _-_, _*_, _/_, _<_, _≤_}
+use Prim.Native.Nat.{ℕ, _*_, _/_, _<_, _≤_}
 use mathlib.Core.Path.{_≡_}
 use mathlib.Core.Bool.{true, false}
 use native.Mathlib.Nat.{mul-le-mul-right, div-le-of-le-mul}
@@ -9,9 +9,8 @@ use Rattle.block.specs.Reading.{rateMax, unavailable}
 use Rattle.bursts.specs.declared.Sums.{Sums}
 use Rattle.bursts.specs.declared.Figures.{Figures}
 use Rattle.bursts.specs.declared.FiguresRead.the-variants.{Accepted, Refused}
-use Rattle.bursts.specs.Groups.{square}
-use Rattle.bursts.specs.Sums.{meanDuration, sumsSound}
-use Rattle.bursts.specs.Figures.{measureMax, overRange, rateOf, ranged, meanOf, varianceOf, figuresOf, measureOf}
+use Rattle.bursts.specs.Sums.{sumsSound}
+use Rattle.bursts.specs.Figures.{measureMax, overRange, rateOf, ranged, meanDuration, durationVariance, meanOf, varianceOf, figuresOf, measureOf}
 
 pub no-rate : (events packets : ℕ) → packets ≡ 0 → unavailable ≡ rateOf events packets
 unfolding rateOf
@@ -48,7 +47,7 @@ module _ (s : Sums) where
     unfolding meanOf
     some-mean = rw (ne-eqb (s .bursts) 0 some)
 
-    pub some-variance : ranged (s .squares / s .bursts - square (meanDuration s)) ≡ varianceOf s
+    pub some-variance : ranged (durationVariance s) ≡ varianceOf s
     unfolding varianceOf
     some-variance = rw (ne-eqb (s .bursts) 0 some)
 

@@ -1,17 +1,19 @@
--- What sound sums have, line by line of document 01's list, and the tests for it. Assumes nothing.
-use Prim.Native.Nat.{ℕ, _-_, _*_, _/_, _<_, _≤_}
-use mathlib.Core.Path.{_≡_, sym, _∙_}
-use mathlib.Core.Bool.{true, false, _&&_, _||_, and-true}
+-- What sound sums have, line by line of document 01's list with ticket 3's last line, the tests for it, and why no product of
+-- them wraps: `Sound-no-bursts` and `Sound-fits` of specs/Laws.antt. Assumes nothing.
+use Prim.Native.Nat.{ℕ, zero, suc, _-_, _*_, _/_, _<_, _≤_}
+use mathlib.Core.Path.{_≡_, refl, sym, _∙_}
+use mathlib.Core.Bool.{true, false, _&&_, and-true}
 use native.Mathlib.Omega.{arith}
-use native.Mathlib.Nat.{mul-le-mul, div-le-self}
-use native.Mathlib.Decide.{ℕ-discrete}
-use borrow.Author.Tests.{leb-true, le-leb, lt-leb, eq-eqb, ne-eqb}
-use lib.Dec.{eqb, leb}
+use native.Mathlib.Nat.{mul-le-mul, zero-mul, suc-mul}
+use borrow.Author.Tests.{leb-true, le-leb, lt-leb}
+use lib.Dec.{leb}
 use Rattle.refusal.proofs.Tests.{and-left, and-right, fails, same-leb, six}
 use Rattle.trace.specs.Trace.{traceMax}
 use Rattle.bursts.specs.declared.Sums.{Sums}
 use Rattle.bursts.specs.Groups.{square}
-use Rattle.bursts.specs.Sums.{meanDuration, durationsMax, countsSound, durationsSound, sumsSound}
+use Rattle.bursts.specs.Sums.{burstsMax, durationsMax, countsSound, durationsSound, sumsSound}
+use Rattle.bursts.specs.Steps.{Spread}
+use Rattle.bursts.specs.Laws.{Sound-no-bursts, ProductsFit, Sound-fits}
 
 -- "E ≤ 65,536, Eb ≤ E, Lb ≤ Eb, Lb ≤ L, L − Lb ≤ E − Eb, 2n ≤ Eb"
 pub record Counts (s : Sums) : Type 0 where
@@ -22,11 +24,11 @@ pub record Counts (s : Sums) : Type 0 where
   pub gaps : s .events - s .«burst_events» ≤ s .packets - s .«burst_packets»
   pub pairs : 2 * s .bursts ≤ s .«burst_packets»
 
--- "S ≤ 2,621,440, Q ≤ S × S, and the integer part of Q / n is at least m × m (if n is not 0)"
+-- "S ≤ 2,621,440, Q ≤ S × S", and "n × Q ≥ S × S"
 pub record Durations (s : Sums) : Type 0 where
   pub most : s .durations ≤ durationsMax
   pub squares : s .squares ≤ square (s .durations)
-  pub spread : (s .bursts ≡ 0 → ⊥) → square (meanDuration s) ≤ s .squares / s .bursts
+  pub spread : square (s .durations) ≤ s .bursts * s .squares
 
 module _ (s : Sums) where
   pub counts-of : countsSound s ≡ true → Counts s
@@ -73,43 +75,59 @@ module _ (s : Sums) where
     unfolding durationsSound
     too-square h = rw (le-leb (s .durations) durationsMax most, lt-leb (s .squares) (square (s .durations)) h)
 
-    module _ (squares : s .squares ≤ square (s .durations)) where
-      pub no-bursts : s .bursts ≡ 0 → true ≡ durationsSound s
-      unfolding durationsSound
-      no-bursts h = rw (le-leb (s .durations) durationsMax most, le-leb (s .squares) (square (s .durations)) squares, eq-eqb (s .bursts) 0 h)
-
-      pub some-bursts : (s .bursts ≡ 0 → ⊥) → leb (square (meanDuration s)) (s .squares / s .bursts) ≡ durationsSound s
-      unfolding durationsSound
-      some-bursts h = rw (le-leb (s .durations) durationsMax most, le-leb (s .squares) (square (s .durations)) squares, ne-eqb (s .bursts) 0 h)
+    pub spread-tested : s .squares ≤ square (s .durations) → leb (square (s .durations)) (s .bursts * s .squares) ≡ durationsSound s
+    unfolding durationsSound
+    spread-tested squares = rw (le-leb (s .durations) durationsMax most, le-leb (s .squares) (square (s .durations)) squares)
 
   pub durations-of : durationsSound s ≡ true → Durations s
   unfolding durationsSound
   durations-of h =
       let a = leb (s .durations) durationsMax in
       let b = leb (s .squares) (square (s .durations)) in
-      let c = eqb (s .bursts) 0 || leb (square (meanDuration s)) (s .squares / s .bursts) in
+      let c = leb (square (s .durations)) (s .bursts * s .squares) in
       let ab = and-left (a && b) c h in
       record {
         most = leb-true _ _ (and-left a b ab);
         squares = leb-true _ _ (and-right a b ab);
-        spread = λ some. leb-true _ _ (rw (ne-eqb (s .bursts) 0 some) at (and-right (a && b) c h));
+        spread = leb-true _ _ (and-right (a && b) c h);
       }
 
   pub durations-sound : Durations s → durationsSound s ≡ true
-  durations-sound h = go (ℕ-discrete (s .bursts) 0)
-    where
-      go : Dec (s .bursts ≡ 0) → durationsSound s ≡ true
-      go (yes none) = sym (no-bursts (h .most) (h .squares) none)
-      go (no some) = sym (some-bursts (h .most) (h .squares) some) ∙ le-leb _ _ (h .spread some)
+  durations-sound h = sym (spread-tested (h .most) (h .squares)) ∙ le-leb _ _ (h .spread)
 
   -- both
   pub sound-of : sumsSound s ≡ true → Counts s × Durations s
   unfolding sumsSound
   sound-of h = (counts-of (and-left (countsSound s) (durationsSound s) h), durations-of (and-right (countsSound s) (durationsSound s) h))
 
--- a mean, and its square, are small enough to be computed with
-pub mean-small : (s : Sums) → s .durations ≤ durationsMax → meanDuration s ≤ durationsMax
-mean-small s h = omega (arith, div-le-self (s .durations) (s .bursts))
+-- a number whose square is 0
+root-0 : (n : ℕ) → square n ≤ 0 → n ≡ 0
+root-0 zero h = refl
+root-0 (suc n) h = let e = suc-mul n (suc n) in absurd (omega arith)
 
+pub sound-no-bursts : Sound-no-bursts
+sound-no-bursts s h none =
+    let d = sound-of s h .1 in
+    let nothing : s .bursts * s .squares ≡ 0 = rw (none, zero-mul (s .squares)) in
+    let S : s .durations ≡ 0 = root-0 (s .durations) (omega arith) in
+    let S×S : square (s .durations) ≡ 0 = rw S in
+    (S, omega arith)
+
+-- products within these bounds
 pub square-small : (n : ℕ) → n ≤ durationsMax → square n ≤ square durationsMax
 square-small n h = mul-le-mul h h
+
+pub products-fit : (s : Sums) → s .bursts ≤ burstsMax → s .durations ≤ durationsMax → s .squares ≤ square (s .durations) → ProductsFit s
+products-fit s n most squares =
+    let q = square-small (s .durations) most in
+    record {
+      bursts = record { at-most = mul-le-mul n n; in-64-bits = omega arith };
+      durations = record { at-most = q; in-64-bits = omega arith };
+      squares = record { at-most = mul-le-mul {n₂ = burstsMax} {m₂ = square durationsMax} n (omega arith); in-64-bits = omega arith };
+    }
+
+pub spread-fits : (s : Sums) → Spread s → ProductsFit s
+spread-fits s p = products-fit s (p .few .bursts) (p .durations) (p .squares)
+
+pub sound-fits : Sound-fits
+sound-fits s h = let p = sound-of s h in products-fit s (omega arith) (p .1 .most) (p .1 .squares)

@@ -1,11 +1,11 @@
 -- The sums of every trace are sound: `Sums-sound` of specs/Laws.antt. Packets and events are compared by position, the sums
 -- over bursts burst by burst. Assumes nothing.
-use Prim.Native.Nat.{ℕ, suc, _+_, _-_, _*_, _/_, _<_, _≤_}
-use mathlib.Core.Path.{_≡_, refl, sym, ap, _∙_}
+use Prim.Native.Nat.{ℕ, suc, _+_, _*_, _/_, _≤_}
+use mathlib.Core.Path.{_≡_, refl}
 use mathlib.Core.Bool.{Bool, true, false, cond, _&&_, not}
 use mathlib.Core.List.{List, [], _∷_}
 use native.Mathlib.Omega.{arith}
-use native.Mathlib.Nat.{mul-comm, add-mul, mul-assoc, mul-le-mul, mul-le-mul-right, le-of-mul-le-mul-left, mul-div-le, le-div-iff-mul-le, zero-mul}
+use native.Mathlib.Nat.{add-mul, mul-le-mul, mul-le-mul-right, mul-div-le, zero-mul}
 use borrow.Author.Tests.{leb-true}
 use lib.ListN.{length}
 use Rattle.refusal.proofs.Tests.{both}
@@ -21,21 +21,8 @@ use Rattle.bursts.specs.Grouping.{isEvent, inBurst, eventsIn}
 use Rattle.bursts.specs.Laws.{Sums-sound}
 use Rattle.bursts.proofs.Groups.{AllSome, groups-some}
 use Rattle.bursts.proofs.Positions.{Rising, Cut, cut, cut-dense, groups-rise, sums-counted}
-use Rattle.bursts.proofs.Spread.{square-add, spread-pairs}
+use Rattle.bursts.proofs.Spread.{square-add, spread-uncut}
 use Rattle.bursts.proofs.Soundness.{Counts, Durations, counts-sound, durations-sound}
-
--- the square of the mean is not above the mean of the squares
-mean-square : (S n Q : ℕ) → square S ≤ n * Q → 0 < n → square (S / n) ≤ Q / n
-mean-square S n Q h some = le-div-iff-mul-le some .1 (le-of-mul-le-mul-left {k = n} scaled some)
-  where
-    m : ℕ
-    m = S / n
-
-    regroup : n * (square m * n) ≡ square (n * m)
-    regroup = ap (λ (x : ℕ). n * x) (mul-assoc m m n ∙ ap (λ (x : ℕ). m * x) (mul-comm m n)) ∙ sym (mul-assoc n m (n * m))
-
-    scaled : n * (square m * n) ≤ n * Q
-    scaled = let e = regroup in let l = mul-le-mul (mul-div-le S n) (mul-div-le S n) in omega arith
 
 -- The five sums over bursts, each with two events or more and no more events than packets.
 record Fair (spacing packets events bursts durations squares : ℕ) : Type 0 where
@@ -124,13 +111,12 @@ module _ (event : ℕ → Bool) (gmin spacing : ℕ) (s : List ℕ) where
     durations : Durations sums
     durations =
         let f = fair-sums in
-        let p = spread-pairs event gmin spacing s in
         let product = mul-le-mul {n₂ = traceMax} {m₂ = spacingMax} (counts .most) (burst gmin spacing range .second .most) in
         let inside = mul-le-mul-right spacing (counts .inside) in
         record {
           most = omega arith;
           squares = f .squares-most;
-          spread = λ some. mean-square (sums .durations) (sums .bursts) (sums .squares) (omega arith) (omega arith);
+          spread = spread-uncut event gmin spacing s;
         }
 
 pub sums-sound : Sums-sound

@@ -1,4 +1,5 @@
--- The figures of the seven sums, as blocks 17 and 18 hold them: document 01, "The trace and its figures".
+-- The figures of the seven sums, as blocks 17 and 18 hold them: document 01, "The trace and its figures", and document 02,
+-- ticket 3, for the variance.
 use Prim.Native.Nat.{ℕ, _-_, _*_, _/_}
 use mathlib.Core.Bool.{cond}
 use lib.Dec.{eqb, leb}
@@ -10,7 +11,7 @@ use Rattle.bursts.specs.declared.Figures.{Figures}
 use Rattle.bursts.specs.declared.FiguresRead.{FiguresRead}
 use Rattle.bursts.specs.declared.FiguresRead.the-variants.{Accepted, Refused}
 use Rattle.bursts.specs.Groups.{square}
-use Rattle.bursts.specs.Sums.{meanDuration, sumsSound}
+use Rattle.bursts.specs.Sums.{sumsSound}
 
 abbrev pub measureMax : ℕ
 measureMax = 65_533
@@ -26,13 +27,20 @@ rateOf events packets = cond (eqb packets 0) unavailable (events * rateMax / pac
 unfoldable pub ranged : ℕ → ℕ
 ranged measure = cond (leb measure measureMax) measure overRange
 
--- "mean m is the integer part of S / n; .. unavailable if n is 0"
+-- "mean m is the integer part of S / n", before any cap
+abbrev pub meanDuration : Sums → ℕ
+meanDuration s = s .durations / s .bursts
+
+-- "The variance is to be the integer part of (n × Q − S × S) / (n × n)", before any cap
+abbrev pub durationVariance : Sums → ℕ
+durationVariance s = (s .bursts * s .squares - square (s .durations)) / square (s .bursts)
+
+-- "both unavailable if n is 0; above 65,533 sent as over range"
 unfoldable pub meanOf : Sums → ℕ
 meanOf s = cond (eqb (s .bursts) 0) unavailable (ranged (meanDuration s))
 
--- "variance is the integer part of Q / n, less m × m; .. unavailable if n is 0; .. (m × m uses m before that)"
 unfoldable pub varianceOf : Sums → ℕ
-varianceOf s = cond (eqb (s .bursts) 0) unavailable (ranged (s .squares / s .bursts - square (meanDuration s)))
+varianceOf s = cond (eqb (s .bursts) 0) unavailable (ranged (durationVariance s))
 
 unfoldable pub figuresOf : Sums → Figures
 figuresOf s =

@@ -1,9 +1,9 @@
 -- The seven sums of a trace, E, L, Eb, Lb, n, S and Q, and when sums are sound: document 01, "The trace and its
--- figures".
-use Prim.Native.Nat.{ℕ, _-_, _*_, _/_}
-use mathlib.Core.Bool.{Bool, _&&_, _||_}
+-- figures", with the last line of document 02, ticket 3.
+use Prim.Native.Nat.{ℕ, _-_, _*_}
+use mathlib.Core.Bool.{Bool, _&&_}
 use mathlib.Core.List.{List}
-use lib.Dec.{eqb, leb}
+use lib.Dec.{leb}
 use lib.ListN.{length}
 use Rattle.trace.specs.Trace.{traceMax}
 use Rattle.bursts.specs.declared.Sums.{Sums}
@@ -26,9 +26,9 @@ sumsOver spacing E L gs =
 abbrev pub sumsOf : (ℕ → Bool) → ℕ → ℕ → List ℕ → Sums
 sumsOf event gmin spacing s = sumsOver spacing (length s) (length (eventsAt event s)) (groups gmin (eventsAt event s))
 
--- m, the mean before any cap
-abbrev pub meanDuration : Sums → ℕ
-meanDuration s = s .durations / s .bursts
+-- the most bursts, by "2n ≤ Eb", "Eb ≤ E" and "E ≤ 65,536"
+abbrev pub burstsMax : ℕ
+burstsMax = 32_768
 
 abbrev pub durationsMax : ℕ
 durationsMax = 2_621_440
@@ -41,11 +41,12 @@ countsSound s =
     && leb (s .«burst_events») (s .events) && leb (s .events - s .«burst_events») (s .packets - s .«burst_packets»)
     && leb (2 * s .bursts) (s .«burst_packets»)
 
--- ".. S ≤ 2,621,440, Q ≤ S × S, and the integer part of Q / n is at least m × m (if n is not 0)."
+-- ".. S ≤ 2,621,440, Q ≤ S × S, ..", and by document 02, ticket 3, "n × Q ≥ S × S in place of the last line of document
+-- 01's list", where n is 0 too
 unfoldable pub durationsSound : Sums → Bool
 durationsSound s =
     leb (s .durations) durationsMax && leb (s .squares) (square (s .durations))
-    && (eqb (s .bursts) 0 || leb (square (meanDuration s)) (s .squares / s .bursts))
+    && leb (square (s .durations)) (s .bursts * s .squares)
 
 unfoldable pub sumsSound : Sums → Bool
 sumsSound s = countsSound s && durationsSound s

@@ -1,11 +1,12 @@
-// The seven sums of a trace's bursts and the figures that they give: document 01, "The trace and its figures".
+// The seven sums of a trace's bursts and the figures that they give: document 01, "The trace and its figures", and document
+// 02, ticket 3.
 // What the sums are over, groups of events, is in specs/Groups.antt. Any sums may be handed in: those that
 // are not sound are refused, and no product of them wraps.
 use refusal::Refusal;
 ghost use mathlib.Core.Path.{_≡_};
 ghost use Rattle.bursts.specs.Sums.{countsSound, durationsSound, sumsSound};
 ghost use Rattle.bursts.specs.Figures.{rateOf, ranged, meanOf, varianceOf, measureOf};
-ghost use Rattle.bursts.specs.Steps.{Rated, Spread};
+ghost use Rattle.bursts.specs.Steps.{Rated, Few, Spread};
 
 // What is summed over the packets so far: E, L, Eb, Lb, n, S and Q of document 01, in its order.
 // C: nuvaskoe_sums
@@ -27,7 +28,7 @@ pub struct Figures {
     pub burst_rate: u16, // 0 to 32,768, or 65,535 for unavailable
     pub gap_rate: u16, // 0 to 32,768, or 65,535 for unavailable
     pub burst_mean: u16, // milliseconds; 65,534 for over range, 65,535 for unavailable
-    pub burst_variance: u16, // the same two marks
+    pub burst_variance: u16, // square milliseconds, divided by the number of bursts (RFC 7004: by one less); the same two marks
 }
 
 // What sums give: their figures, or why none.
@@ -51,7 +52,7 @@ pub const MEASURE_MAX: u64 = 65_533;
 // What is sent for a mean or variance above that.
 pub const OVER_RANGE: u16 = 65_534;
 
-// Whether sums can be those of a trace, as far as document 01's list says.
+// Whether sums can be those of a trace, as far as document 01's list says, with ticket 3's last line.
 pub fn sound(s: Sums) -> bool
     ensures { λ r. ⌜ r ≡ sumsSound s ⌝ }
 {
@@ -92,21 +93,19 @@ fn counts_sound(s: Sums) -> bool
         & (s.bursts <= s.burst_packets / 2)
 }
 
-// Of the list's lines those on durations.
+// Of the list's lines those on durations. Each product is of numbers that are bounded by then.
 fn durations_sound(s: Sums) -> bool
+    requires { ⌜ Few s ⌝ }
     ensures { λ r. ⌜ r ≡ durationsSound s ⌝ }
 {
     if DURATIONS_MAX < s.durations {
         return false;
     }
-    if s.durations * s.durations < s.squares {
+    let square = s.durations * s.durations;
+    if square < s.squares {
         return false;
     }
-    if s.bursts == 0 {
-        return true;
-    }
-    let mean = s.durations / s.bursts;
-    mean * mean <= s.squares / s.bursts
+    square <= s.bursts * s.squares
 }
 
 // Events for each packet, in parts of the highest rate.
@@ -140,7 +139,7 @@ fn mean(s: Sums) -> u16
     in_range(s.durations / s.bursts)
 }
 
-// The variance of the bursts' durations; the mean in it is the whole one, also where the mean sent is not.
+// The variance of the bursts' durations.
 fn variance(s: Sums) -> u16
     requires { ⌜ Spread s ⌝ }
     ensures { λ r. ⌜ r ≡ varianceOf s ⌝ }
@@ -148,6 +147,5 @@ fn variance(s: Sums) -> u16
     if s.bursts == 0 {
         return block::UNAVAILABLE;
     }
-    let mean = s.durations / s.bursts;
-    in_range(s.squares / s.bursts - mean * mean)
+    in_range((s.bursts * s.squares - s.durations * s.durations) / (s.bursts * s.bursts))
 }

@@ -1,5 +1,5 @@
 -- Sums, figures, blocks and effective loss are what the formulas say: `AsPublished` of specs/Formulas.antt. Assumes nothing.
-use Prim.Native.Nat.{ℕ, _-_, _/_}
+use Prim.Native.Nat.{ℕ, _-_}
 use mathlib.Core.Path.{_≡_, refl, sym, _∙_}
 use mathlib.Core.Bool.{Bool}
 use mathlib.Core.List.{List}
@@ -19,12 +19,13 @@ use Rattle.bursts.specs.declared.Sums.{Sums}
 use Rattle.bursts.specs.declared.Figures.{Figures}
 use Rattle.bursts.specs.declared.FiguresRead.{FiguresRead}
 use Rattle.bursts.specs.declared.FiguresRead.the-variants.{Accepted, Refused}
-use Rattle.bursts.specs.Groups.{eventsAt, groups, duration, square}
-use Rattle.bursts.specs.Sums.{sumsOver, sumsOf, meanDuration}
-use Rattle.bursts.specs.Figures.{ranged, figuresOf}
+use Rattle.bursts.specs.Groups.{eventsAt, groups, duration}
+use Rattle.bursts.specs.Sums.{sumsOver, sumsOf}
+use Rattle.bursts.specs.Figures.{ranged, meanDuration, durationVariance, figuresOf}
 use Rattle.bursts.specs.Laws.{Uncut}
 use Rattle.bursts.proofs.Grouping.{are}
 use Rattle.bursts.proofs.Positions.{events-are, sums-counted}
+use Rattle.bursts.proofs.Spread.{spread-uncut}
 use Rattle.bursts.proofs.Cases.{some-rate, in-range, over-range, some-mean, some-variance}
 use Rattle.tally.specs.declared.Tally.{Tally}
 use Rattle.tally.specs.declared.Opened.the-variants.{Accepted as Opened·Accepted, Refused as Opened·Refused}
@@ -53,6 +54,7 @@ sums event gmin spacing s =
       bursts = refl;
       durations = refl;
       squares = refl;
+      spread = spread-uncut (countsAs event) gmin spacing s;
     }
 
 -- the figures of any sums that cut nothing off
@@ -69,7 +71,7 @@ formulas r u =
       },
       record {
         mean = λ some. capped _ (meanDuration r) (some-mean r some);
-        variance = λ some. capped _ (r .squares / r .bursts - square (meanDuration r)) (some-variance r some);
+        variance = λ some. capped _ (durationVariance r) (some-variance r some);
       },
     )
 

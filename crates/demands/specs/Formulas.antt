@@ -1,5 +1,5 @@
--- The published formulas: document 01, "The trace and its figures", and documents 003 and 002. E, L, Eb, Lb, n, S and Q are
--- the fields of `Sums`, in that order.
+-- The published formulas: document 01, "The trace and its figures", with document 02's variance (ticket 3), and documents 003
+-- and 002. E, L, Eb, Lb, n, S and Q are the fields of `Sums`, in that order.
 use Prim.Native.Nat.{ℕ, _+_, _-_, _*_, _/_, _<_, _≤_}
 use mathlib.Core.Path.{_≡_}
 use mathlib.Core.Bool.{Bool}
@@ -31,7 +31,7 @@ use Rattle.batch.specs.declared.LossRead.the-variants.{Loss as LossRead·Loss}
 use Rattle.batch.specs.Laws.{FirstMeans}
 use Rattle.batch.specs.Loss.{lossAnswer}
 
--- "duration of a burst: integer part of its packets × spacing / 1000"
+-- "duration of a burst: integer part of its packets × spacing / 1000", as in crate bursts, spelled out
 abbrev pub lasts : ℕ → Group → ℕ
 lasts spacing b = packetsOf b * spacing / 1000
 
@@ -46,6 +46,8 @@ pub record SumsFormulas (event : Event) (gmin spacing : ℕ) (s : List ℕ) (r :
   pub bursts : r .bursts ≡ length (burstsOf groups)
   pub durations : r .durations ≡ total (lasts spacing) (burstsOf groups)
   pub squares : r .squares ≡ total (λ b. lasts spacing b * lasts spacing b) (burstsOf groups)
+  -- n × Q − S × S is not cut off at 0
+  pub spread : r .durations * r .durations ≤ r .bursts * r .squares
 
 -- rates, where they can be measured
 pub record Rates (r : Sums) (burst-rate gap-rate : ℕ) : Type 0 where
@@ -59,7 +61,7 @@ Capped figure measure = (measure ≤ 65533 → figure ≡ measure) × (65533 < m
 -- mean and variance, where they can be measured
 pub record MeanAndVariance (r : Sums) (burst-mean burst-variance : ℕ) : Type 0 where
   pub mean : (r .bursts ≡ 0 → ⊥) → Capped burst-mean (r .durations / r .bursts)
-  pub variance : (r .bursts ≡ 0 → ⊥) → Capped burst-variance (r .squares / r .bursts - r .durations / r .bursts * (r .durations / r .bursts))
+  pub variance : (r .bursts ≡ 0 → ⊥) → Capped burst-variance ((r .bursts * r .squares - r .durations * r .durations) / (r .bursts * r .bursts))
 
 abbrev pub FiguresFormulas : Sums → Figures → Type 0
 FiguresFormulas r f = Rates r (f .«burst_rate») (f .«gap_rate») × MeanAndVariance r (f .«burst_mean») (f .«burst_variance»)

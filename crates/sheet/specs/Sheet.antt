@@ -83,8 +83,8 @@ sheet =
     ∷ record { given = effective (0 ∷ 0 ∷ 0 ∷ []) 3 0; expected = loss (Loss (record { over = 0; batches = 1; index = 0; first = None })) }
     ∷ record { given = effective (1 ∷ 1 ∷ 1 ∷ []) 1 0; expected = found 3 3 65535 0 }
     ∷ record { given = effective (0 ∷ []) 2 0; expected = loss (Loss·Refused batchLength) }
-    -- P6, P7, P8, P9
-    ∷ record { given = burst-gap (1 ∷ 0 ∷ 1 ∷ 0 ∷ 0 ∷ 1 ∷ 0 ∷ 0 ∷ 0 ∷ 1 ∷ 1 ∷ []) 2 1000; expected = measured 26214 5461 2 2 }
+    -- P6, with the variance of document 02, ticket 3; P7, P8, P9
+    ∷ record { given = burst-gap (1 ∷ 0 ∷ 1 ∷ 0 ∷ 0 ∷ 1 ∷ 0 ∷ 0 ∷ 0 ∷ 1 ∷ 1 ∷ []) 2 1000; expected = measured 26214 5461 2 0 }
     ∷ record { given = burst-gap (1 ∷ 1 ∷ 1 ∷ []) 16 1000; expected = measured 32768 unavailable 3 0 }
     ∷ record { given = burst-gap (1 ∷ []) 16 1000; expected = measured unavailable 32768 unavailable unavailable }
     ∷ record { given = burst-gap (0 ∷ 0 ∷ 0 ∷ []) 16 1000; expected = measured unavailable 0 unavailable unavailable }

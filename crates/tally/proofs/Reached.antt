@@ -18,12 +18,13 @@ use Rattle.bursts.specs.Groups.{eventsFrom, groups, burstsOf, total}
 use Rattle.bursts.specs.Sums.{sumsOver, sumsOf, countsSound, durationsSound, sumsSound}
 use Rattle.bursts.specs.Figures.{figuresOf, rateOf, meanOf, varianceOf}
 use Rattle.bursts.proofs.Availability.{figures-right, sound-uncut}
+use Rattle.bursts.proofs.Soundness.{sound-fits}
 use Rattle.bursts.proofs.TraceSums.{sums-sound}
 use Rattle.tally.specs.declared.Tally.{Tally}
 use Rattle.tally.specs.declared.Opened.the-variants.{Accepted, Refused}
 use Rattle.tally.specs.declared.Answer.the-variants.{Accepted as Answer·Accepted}
 use Rattle.tally.specs.Tally.{fresh, openOf, counted, sound, stepOf, takeOne, closeOf, takeAll}
-use Rattle.tally.specs.Laws.{Takes-all, Sound-throughout, Counts-all, Closes-with-figures, Closes-empty, Closes-right}
+use Rattle.tally.specs.Laws.{Takes-all, Sound-throughout, Counts-all, Closes-with-figures, Closes-empty, Tally-fits, Closes-right}
 use Rattle.tally.proofs.Limits.{sound-of, sound-bounded, tested}
 use Rattle.tally.proofs.Turns.{taken, closes}
 use Rattle.tally.proofs.Holding.{Holds, holds-fresh, holds-packets, holds-set, holds-counted, holds-step}
@@ -121,9 +122,16 @@ unfolding takeAll eventsFrom groups sumsOver burstsOf total figuresOf rateOf mea
 closes-empty gmin spacing event t o =
     reached-closed gmin spacing event t (opened-fresh gmin spacing event t o) [] (omega arith) (λ i l. absurd (omega arith))
 
+-- a sound tally's sums are judged as it is
+sums-same : (t : Tally) → sound t ≡ true → sumsSound (counted t) ≡ sound t
+sums-same t s = tested t (sound-of t s .ranges) (sound-bounded t s)
+
+pub tally-fits : Tally-fits
+tally-fits t s = sound-fits (counted t) (sums-same t s ∙ s)
+
 pub closes-right : Closes-right
 unfolding closeOf
 closes-right t f h =
     let s = passed (sound t) (FiguresRead·Refused setting) _ (FiguresRead·Accepted f) (λ e. let z : _≡_ {A = ℕ} 0 1 = cc in omega arith) h .0 in
-    let same = tested t (sound-of t s .ranges) (sound-bounded t s) in
+    let same = sums-same t s in
     (figures-right (counted t) f (closes t same ∙ h), sound-uncut (counted t) (same ∙ s))

@@ -12,7 +12,7 @@ use Rattle.bursts.specs.declared.Figures.{Figures}
 use Rattle.bursts.specs.declared.FiguresRead.the-variants.{Accepted as FiguresRead·Accepted}
 use Rattle.bursts.specs.Sums.{sumsOf}
 use Rattle.bursts.specs.Figures.{figuresOf}
-use Rattle.bursts.specs.Laws.{Right, Uncut}
+use Rattle.bursts.specs.Laws.{Right, Uncut, ProductsFit}
 use Rattle.tally.specs.declared.Tally.{Tally}
 use Rattle.tally.specs.declared.Opened.the-variants.{Accepted}
 use Rattle.tally.specs.declared.Answer.the-variants.{Accepted as Answer·Accepted}
@@ -52,6 +52,10 @@ Closes-empty =
     (gmin spacing : ℕ) (event : Event) (t : Tally) → openOf gmin spacing event ≡ Accepted t →
     closeOf t
     ≡ FiguresRead·Accepted (record { «burst_rate» = unavailable; «gap_rate» = unavailable; «burst_mean» = unavailable; «burst_variance» = unavailable })
+
+-- n × n, n × Q and S × S of a sound tally, with its open stretch counted in, fit 64 bits.
+abbrev pub Tally-fits : Type 0
+Tally-fits = (t : Tally) → sound t ≡ true → ProductsFit (counted t)
 
 -- What any tally closes with, also one that no trace leads to: a figure that could be measured is never sent as
 -- unavailable, and no subtraction in a formula was cut off at 0.

@@ -63,7 +63,7 @@ counted t = countedIn (t .spacing) (t .stretch) (t .sums)
 unfoldable pub openWithin : Stretch → ℕ → Bool
 openWithin stretch E = leb (stretch .events) E && leb (stretch .packets) E && leb (stretch .since) E
 
--- Document 01's list, in its order.
+-- Document 01's list, in its order, with document 02's last line (ticket 3).
 unfoldable pub sound : Tally → Bool
 sound t =
     burstInRange (t .gmin) (t .spacing) && countsSound (counted t) && openWithin (t .stretch) (t .sums .packets)

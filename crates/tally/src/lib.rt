@@ -1,6 +1,6 @@
 // The tally of bursts: document 01, "The trace and its figures". A tally is opened with Gmin, the spacing and
 // the event that it counts, takes packets one after the other, by value, and closes with the figures. Any
-// tally may be handed in: one that is not sound is refused, and no sum of it wraps.
+// tally may be handed in: one that is not sound is refused, and no sum or product of it wraps.
 use bursts::FiguresRead;
 use bursts::Sums;
 use refusal::Judged;

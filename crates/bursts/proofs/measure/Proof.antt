@@ -37,7 +37,7 @@ mean-requires : tie.Need-mean-requires
 mean-requires c κs = search needs
 
 variance-requires : tie.Need-variance-requires
-variance-requires c κs = let h = sound-of _ (known (c .before .before .before .before .before)) in record { durations = h .1 .most; least = h .1 .spread }
+variance-requires c κs = let h = sound-of _ (known (c .before .before .before .before .before)) in record { few = record { bursts = omega arith }; durations = h .1 .most; squares = h .1 .squares; least = h .1 .spread }
 
 returns-2 : tie.Need-returns-2
 unfolding figuresOf

@@ -1,9 +1,9 @@
--- `bursts::variance` meets its contract. Assumes nothing.
-use Rattle.bursts.specs.Sums.{meanDuration}
+-- `bursts::variance` meets its contract: no product wraps, and nothing is cut off at 0. Assumes nothing.
+use native.Mathlib.Nat.{mul-pos}
 use native.Mathlib.Omega.{arith}
 use mathlib.Core.Path.{_∙_}
 use Rattle.bursts.proofs.Cases.{no-variance, some-variance}
-use Rattle.bursts.proofs.Soundness.{mean-small, square-small}
+use Rattle.bursts.proofs.Soundness.{spread-fits}
 use borrow.Author.Needs.{needs}
 use Rattle.bursts.proofs.variance.Statement.{statement}
 use Rattle.bursts.proofs.variance.Tie as tie
@@ -11,19 +11,20 @@ use Rattle.bursts.proofs.variance.Tie as tie
 returns : tie.Need-returns
 returns c = no-variance _ (omega arith)
 
-div-mean : tie.Need-div-mean
-div-mean c = search needs
-
-div-in-range : tie.Need-div-in-range
-div-in-range c = search needs
-
 mul-in-range : tie.Need-mul-in-range
-mul-in-range c =
-    let s = c .before .before .before .before .args .s in
-    record { fits = omega (arith, square-small (meanDuration s) (mean-small s (omega arith))) }
+mul-in-range c = let a = c .before .before .before in record { fits = omega (arith, spread-fits (a .args .s) (a .pre)) }
+
+mul-in-range-2 : tie.Need-mul-in-range-2
+mul-in-range-2 c = let a = c .before .before .before .before in record { fits = omega (arith, spread-fits (a .args .s) (a .pre)) }
 
 sub-in-range : tie.Need-sub-in-range
-sub-in-range c = c .before .before .before .before .pre .least (omega arith)
+sub-in-range c = search needs
+
+mul-in-range-3 : tie.Need-mul-in-range-3
+mul-in-range-3 c = let a = c .before .before .before .before .before in record { fits = omega (arith, spread-fits (a .args .s) (a .pre)) }
+
+div-in-range : tie.Need-div-in-range
+div-in-range c = mul-pos (omega arith) (omega arith)
 
 in-range-requires : tie.Need-in-range-requires
 in-range-requires c κs = search needs
@@ -34,4 +35,12 @@ returns-2 c = c .in-range .ensures ∙ some-variance _ (omega arith)
 pub variance-spec : {M : Type 1} → statement M
 variance-spec =
     tie.close
-    (tie.spec returns div-mean div-in-range mul-in-range sub-in-range in-range-requires returns-2)
+    (tie.spec
+    returns
+    mul-in-range
+    mul-in-range-2
+    sub-in-range
+    mul-in-range-3
+    div-in-range
+    in-range-requires
+    returns-2)
