@@ -1,5 +1,6 @@
 //! "The trace and its figures": the burst figures of a whole trace, once from the events'
-//! positions and the formulas, once in a single pass. Refusals in order: 15, 10, 9.
+//! positions and the formulas, once in a single pass. The variance is that of document 02's
+//! ticket 3. Refusals in order: 15, 10, 9.
 
 use crate::block::{Block, Discard, Loss};
 use crate::refusal::Refusal;
@@ -141,25 +142,31 @@ pub fn duration(packets: u64, spacing: u64) -> u64 {
     packets * spacing / 1_000
 }
 
-/// The four formulas over E, L, Eb, Lb, n, S and Q.
+/// The four formulas over E, L, Eb, Lb, n, S and Q, of a trace or of a sound tally.
 pub fn formulas(sums: &Sums) -> Figures {
     let in_gaps = (
         sums.events - sums.burst_events,
         sums.packets - sums.burst_packets,
     );
-    let (mean, variance) = match sums.duration_sum.checked_div(sums.bursts) {
-        None => (UNAVAILABLE, UNAVAILABLE),
-        Some(mean) => {
-            let variance = sums.duration_squares / sums.bursts - mean * mean;
-            (capped(mean), capped(variance))
-        }
-    };
+    let mean = sums.duration_sum.checked_div(sums.bursts);
     Figures {
         burst_rate: rate(sums.burst_events, sums.burst_packets),
         gap_rate: rate(in_gaps.0, in_gaps.1),
-        mean,
-        variance,
+        mean: mean.map_or(UNAVAILABLE, capped),
+        variance: variance(sums).map_or(UNAVAILABLE, capped),
     }
+}
+
+/// "The variance is to be the integer part of (n × Q − S × S) / (n × n)" (document 02's ticket
+/// 3), none where n is 0, not yet capped.
+fn variance(sums: &Sums) -> Option<u64> {
+    let (n, s, q) = (sums.bursts, sums.duration_sum, sums.duration_squares);
+    if n == 0 {
+        return None;
+    }
+    // Of a trace or a sound tally n ≤ 32,768, S ≤ 2,621,440 and S × S ≤ n × Q ≤ n × S × S,
+    // which is at most 25 × 2^53: nothing overflows 64 bits, nor falls below 0.
+    Some((n * q - s * s) / (n * n))
 }
 
 impl Sums {

@@ -9,7 +9,7 @@ use crate::refusal::Refusal;
 use crate::tally::Tally;
 use crate::trace::Event;
 
-/// The tally after one packet more; as given where document 01 refuses that.
+/// The tally after one packet more; as given where that is refused.
 pub fn take(tally: Tally, byte: u8) -> (Tally, Result<(), Refusal>) {
     if let Err(refusal) = tally.check(byte) {
         return (tally, Err(refusal));

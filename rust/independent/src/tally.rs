@@ -1,5 +1,6 @@
 //! "The trace and its figures": a tally, which takes packets one after another. Its closing
-//! gives the figures of the packets it took. Refusals in order: 15, 10, 9.
+//! gives the figures of the packets it took. The last line of its soundness is that of document
+//! 02's ticket 3. Refusals in order: 15, 10, 9.
 
 use crate::burst::{self, Figures, Sums};
 use crate::refusal::Refusal;
@@ -96,8 +97,9 @@ impl Tally {
         Ok(burst::formulas(&self.counted_in()))
     }
 
-    /// The document's list of what is so "with its open stretch counted in". What is
-    /// multiplied is bounded by then, so that no number overflows.
+    /// Document 01's list of what is so "with its open stretch counted in", and document 02's
+    /// "n × Q ≥ S × S in place of the last line". What is multiplied is bounded by then, so that
+    /// no number overflows: n by Eb, S by its own line, Q by S × S.
     pub fn sound(&self) -> bool {
         let [e, l, open_events, open_packets, open_gap] = [
             self.seen,
@@ -138,7 +140,7 @@ impl Tally {
             && 2 * n <= eb
             && s <= 2_621_440
             && q <= s * s
-            && (n == 0 || q / n >= (s / n) * (s / n))
+            && n * q >= s * s
     }
 
     /// The event starts a stretch, or carries the open one on to itself.

@@ -1,3 +1,5 @@
+mod variance;
+
 use super::*;
 use crate::compose;
 use Event::{Discarded, Lost};
@@ -40,9 +42,10 @@ fn bursts_of(lengths: &[usize]) -> Vec<u8> {
     bursts.join(&0)
 }
 
+/// By document 02's ticket 3 "Case P6 then reads variance 0".
 #[test]
 fn p6() {
-    let expected = [26_214, 5_461, 2, 2];
+    let expected = [26_214, 5_461, 2, 0];
     assert_eq!(lost("10100100011", 2, 1_000), expected);
     let sums = sums(&trace("10100100011"), 2, 1_000, Lost);
     let expected = Sums {
@@ -57,6 +60,7 @@ fn p6() {
     assert_eq!(sums, expected);
 }
 
+/// "P7 stays 0."
 #[test]
 fn p7() {
     assert_eq!(lost("111", 16, 1_000), [32_768, UNAVAILABLE, 3, 0]);
@@ -141,29 +145,6 @@ fn means_at_the_limit() {
     assert_eq!(numbers(largest), [32_768, UNAVAILABLE, OVER_RANGE, 0]);
 }
 
-/// Durations a and a + 509: the mean is a + 254 and the variance a + 65,024.
-#[test]
-fn variances_at_the_limit() {
-    let cases = [
-        ([508, 1_017], 762, 65_532),
-        ([509, 1_018], 763, 65_533),
-        ([510, 1_019], 764, OVER_RANGE),
-    ];
-    for (lengths, mean, variance) in cases {
-        let answer = both(&bursts_of(&lengths), 1, 1_000, Lost).unwrap();
-        assert_eq!((answer.mean, answer.variance), (mean, variance));
-    }
-}
-
-/// m × m uses the mean as it is, over range or not.
-#[test]
-fn the_variance_of_a_mean_over_range() {
-    let answer = both(&bursts_of(&[30_000, 30_000]), 1, 40_000, Lost).unwrap();
-    assert_eq!((answer.mean, answer.variance), (OVER_RANGE, 0));
-    let answer = both(&bursts_of(&[30_000, 30_001]), 1, 40_000, Lost).unwrap();
-    assert_eq!((answer.mean, answer.variance), (OVER_RANGE, 400));
-}
-
 #[test]
 fn refusals_in_order() {
     let bad = [0, 3, 0, 4];
@@ -185,20 +166,21 @@ fn refusals_in_order() {
 
 #[test]
 fn blocks_of_figures() {
-    let figures = both(&trace("10100100011"), 2, 1_000, Lost).unwrap();
+    // Bursts of 2 and 5 packets, 2 + 4 of them lost, and one of 5 in the gap: 9 / 4.
+    let figures = both(&trace("110011011001"), 2, 1_000, Lost).unwrap();
     let loss = Loss {
         flag: 3,
         source: 7,
-        burst_rate: 26_214,
-        gap_rate: 5_461,
-        mean: 2,
+        burst_rate: 28_086,
+        gap_rate: 6_553,
+        mean: 3,
         variance: 2,
     };
     let discard = Discard {
         flag: 2,
         source: 9,
-        burst_rate: 26_214,
-        gap_rate: 5_461,
+        burst_rate: 28_086,
+        gap_rate: 6_553,
     };
     assert_eq!(loss_block(&figures, 7, 3), Block::Loss(loss));
     assert_eq!(discard_block(&figures, 9, 2), Block::Discard(discard));

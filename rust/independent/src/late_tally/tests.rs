@@ -57,7 +57,7 @@ fn steps_and_closed_form() {
     }
 }
 
-/// What is refused is what document 01 refuses, and changes nothing.
+/// What is refused is what [`Tally`] refuses, and changes nothing.
 #[test]
 fn refused() {
     let opened = Tally::open(2, 1_000, Lost).unwrap();
@@ -69,5 +69,17 @@ fn refused() {
     assert_eq!(take(full, 255), (full, Err(Refusal::TRACE_LENGTH)));
     let mut unsound = full;
     unsound.seen += 1;
+    assert_eq!(take(unsound, 255), (unsound, Err(Refusal::SETTING)));
+    // Bursts of 2 and 1 ms: 2 × 5 is at least 3 × 3, and 2 × 4 is not.
+    let bursts = Tally {
+        burst_packets: 4,
+        bursts: 2,
+        duration_sum: 3,
+        duration_squares: 5,
+        ..full
+    };
+    assert_eq!(take(bursts, 255), (bursts, Err(Refusal::TRACE_LENGTH)));
+    let mut unsound = bursts;
+    unsound.duration_squares = 4;
     assert_eq!(take(unsound, 255), (unsound, Err(Refusal::SETTING)));
 }

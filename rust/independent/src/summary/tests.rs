@@ -62,11 +62,12 @@ fn both(digits: &str, gmin: u64, spacing: u64) -> (Block, Block) {
 
 const NONE: [u16; 4] = [UNAVAILABLE, 0, UNAVAILABLE, UNAVAILABLE];
 
-/// P6 to P9: the 18 of a trace without discarded packets has no burst, and none in its gap.
+/// P6 to P9, P6 with document 02's variance: the 18 of a trace without discarded packets has no
+/// burst, and none in its gap.
 #[test]
 fn the_sheet() {
     let sheet = [
-        ("10100100011", 2, [26_214, 5_461, 2, 2]),
+        ("10100100011", 2, [26_214, 5_461, 2, 0]),
         ("111", 16, [32_768, UNAVAILABLE, 3, 0]),
         ("1", 16, [UNAVAILABLE, 32_768, UNAVAILABLE, UNAVAILABLE]),
         ("000", 16, NONE),
@@ -81,6 +82,9 @@ fn the_sheet() {
 fn each_block_counts_its_own_packets() {
     let discarded = discard([32_768, UNAVAILABLE]);
     assert_eq!(both("222", 16, 1_000), (loss(NONE), discarded));
+    // Bursts of 2, 5 and 9 packets: (3 × 110 − 16 × 16) / 9 is 74 / 9.
+    let lost = both("110111110111111111", 1, 1_000).0;
+    assert_eq!(lost, loss([32_768, 0, 5, 8]));
     // A burst of two lost packets, and a lone discarded one.
     let (lost, discarded) = both("11002", 1, 40_000);
     assert_eq!(lost, loss([32_768, 0, 80, 0]));
@@ -164,10 +168,15 @@ fn a_tally_that_is_not_sound() {
     for event in [Lost, Discarded] {
         let sound = taken(&[1, 2, 1, 2], 3, 1_000, event);
         assert!(of_tally(sound, 7, 0).is_ok());
-        let (mut settings, mut since) = (sound, sound);
+        let (mut settings, mut since, mut squares) = (sound, sound, sound);
         settings.gmin = 256;
         since.open_gap = 5;
-        for unsound in [settings, since] {
+        // The open 3 ms and 2 ms more make n 2 and S 5: 2 × 13 is at least 25, 2 × 12 is not.
+        (squares.bursts, squares.burst_packets) = (1, 1);
+        (squares.duration_sum, squares.duration_squares) = (2, 4);
+        assert!(of_tally(squares, 7, 0).is_ok());
+        squares.duration_squares = 3;
+        for unsound in [settings, since, squares] {
             for flag in [0, 1, 3, 255] {
                 assert_eq!(of_tally(unsound, 7, flag), Err(Refusal::SETTING));
             }

@@ -1,3 +1,6 @@
+mod hostile;
+mod last_line;
+
 use super::*;
 use crate::burst::{figures, UNAVAILABLE};
 use Event::{Discarded, Lost};
@@ -56,10 +59,11 @@ fn numbers(seed: u64) -> impl FnMut(u64) -> u64 {
     }
 }
 
+/// P6 to P9, P6 with document 02's variance.
 #[test]
 fn the_sheet() {
     let sheet = [
-        ("10100100011", 2, [26_214, 5_461, 2, 2]),
+        ("10100100011", 2, [26_214, 5_461, 2, 0]),
         ("111", 16, [32_768, UNAVAILABLE, 3, 0]),
         ("1", 16, [UNAVAILABLE, 32_768, UNAVAILABLE, UNAVAILABLE]),
         ("000", 16, [UNAVAILABLE, 0, UNAVAILABLE, UNAVAILABLE]),
@@ -211,7 +215,7 @@ fn each_line_of_the_list() {
     };
     sound(base);
     type Set = fn(&mut Tally, u64);
-    let lines: [(Set, u64, u64); 15] = [
+    let lines: [(Set, u64, u64); 16] = [
         (|tally, number| tally.gmin = number, 1, 0),
         (|tally, number| tally.gmin = number, 255, 256),
         (|tally, number| tally.spacing = number, 1, 0),
@@ -224,14 +228,15 @@ fn each_line_of_the_list() {
         (|tally, number| tally.events = number, 8, 7),
         // Lb ≤ Eb.
         (|tally, number| tally.burst_events = number, 10, 11),
-        // 2n ≤ Eb, with Q / n at least m × m either way.
+        // 2n ≤ Eb, with n × Q = 260 or 312, at least S × S = 100 either way.
         (|tally, number| tally.bursts = number, 5, 6),
         (|tally, number| tally.open_packets = number, 100, 101),
         (|tally, number| tally.open_gap = number, 100, 101),
         // Q ≤ S × S.
         (|tally, number| tally.duration_squares = number, 100, 101),
-        // Q / n ≥ m × m: 25 for m = 5.
+        // n × Q ≥ S × S: 100 and 98, and 104 and 52, against 100.
         (|tally, number| tally.duration_squares = number, 50, 49),
+        (|tally, number| tally.bursts = number, 2, 1),
         (
             |tally, number| {
                 tally.duration_sum = number;
@@ -280,7 +285,7 @@ fn the_open_stretch_counts_in() {
     unsound(with(|tally| (tally.open_events, tally.events) = (5, 5)));
     // 2n ≤ Eb.
     unsound(with(|tally| tally.bursts = 2));
-    // The last two lines: S = 4 + 1 and Q = 16.
+    // n × Q ≥ S × S: 16 against 4 × 4, and against 5 × 5.
     sound(with(|tally| tally.duration_sum = 0));
     unsound(with(|tally| {
         (tally.duration_sum, tally.duration_squares) = (1, 0);
@@ -292,6 +297,7 @@ fn the_open_stretch_counts_in() {
     sound(Tally { events: 1, ..one });
 }
 
+/// Packets and events of no burst, which have no duration: with 7 ms, 0 × 49 is below 49.
 #[test]
 fn sums_without_bursts_are_closed_all_the_same() {
     let tally = Tally {
@@ -299,11 +305,14 @@ fn sums_without_bursts_are_closed_all_the_same() {
         events: 3,
         burst_packets: 4,
         burst_events: 2,
-        duration_sum: 7,
-        duration_squares: 49,
         ..opened(2, 1_000)
     };
     sound(tally);
+    unsound(Tally {
+        duration_sum: 7,
+        duration_squares: 49,
+        ..tally
+    });
     let expected = Figures {
         burst_rate: 16_384,
         gap_rate: 5_461,
@@ -328,54 +337,27 @@ fn a_step_does_not_keep_every_sound_tally_sound() {
     assert_eq!(answer, Ok(()));
     assert_eq!((next.seen, next.open_packets), (2, 3));
     unsound(next);
+    // No trace leads to 10 ms with 60 as their square. At half a millisecond a packet, the open
+    // stretch is of 1 ms with two events and with three, and of 2 ms with four: n is 2, S 11 and
+    // then 12, Q 61 and then 64. 122 is at least 121, and 128 less than 144: that line alone
+    // does not hold.
     let mut tally = Tally {
         seen: 4,
         events: 4,
-        burst_packets: 4,
-        burst_events: 4,
-        bursts: 2,
-        duration_sum: 3,
-        duration_squares: 2,
-        ..opened(1, 1_000)
+        burst_packets: 2,
+        burst_events: 2,
+        bursts: 1,
+        duration_sum: 10,
+        duration_squares: 60,
+        open_events: 2,
+        open_packets: 2,
+        ..opened(1, 500)
     };
-    for _ in 0..3 {
+    for _ in 0..2 {
         sound(tally);
-        tally = tally.take(1).0;
+        tally = after(tally, &[1]);
     }
+    assert_eq!((tally.open_events, tally.open_packets), (4, 4));
+    assert_eq!(last_line::of(&tally), Some((128, 144)));
     unsound(tally);
-}
-
-/// Any numbers at all are answered, without an overflow.
-#[test]
-fn hostile_tallies() {
-    let ends = [0, 1, 2, 3, 4, 65_536, 2_621_440, 1 << 32, 1 << 63, u64::MAX];
-    let mut next = numbers(3);
-    let mut sound_ones = 0;
-    for round in 0..2_000_000 {
-        // Every other round is of small numbers alone.
-        let kinds = if round % 2 == 0 { 5 } else { ends.len() };
-        let mut number = || ends[next(kinds as u64) as usize];
-        let tally = Tally {
-            gmin: number(),
-            spacing: number(),
-            event: Discarded,
-            seen: number(),
-            events: number(),
-            burst_packets: number(),
-            burst_events: number(),
-            bursts: number(),
-            duration_sum: number(),
-            duration_squares: number(),
-            open_events: number(),
-            open_packets: number(),
-            open_gap: number(),
-        };
-        if tally.sound() {
-            sound(tally);
-            sound_ones += 1;
-        } else {
-            unsound(tally);
-        }
-    }
-    assert!(sound_ones > 1_000, "{sound_ones}");
 }
