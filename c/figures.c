@@ -5,6 +5,8 @@
 
 /* P6 of document 01: bursts of three packets and of two, Gmin 2. */
 static const uint8_t p6[11] = {1, 0, 1, 0, 0, 1, 0, 0, 0, 1, 1};
+/* Bursts of 2, 5 and 9 packets: the variance is (3 * 110 - 16 * 16) / 9, of 74. */
+static const uint8_t spread[18] = {1, 1, 0, 1, 1, 1, 1, 1, 0, 1, 1, 1, 1, 1, 1, 1, 1, 1};
 
 static uint8_t longest[NUVASKOE_TRACE_MAX + 1];
 
@@ -77,8 +79,9 @@ static void check_figures(void)
     static const uint8_t lost[3] = {1, 1, 1};
     static const uint8_t received[3] = {0, 0, 0};
     static const uint8_t discarded[4] = {2, 1, 2, 0};
-    CHECK(figured(nuvaskoe_figures(p6, sizeof p6, 2, 1000, NUVASKOE_EVENT_LOST), 26214, 5461, 2, 2));
+    CHECK(figured(nuvaskoe_figures(p6, sizeof p6, 2, 1000, NUVASKOE_EVENT_LOST), 26214, 5461, 2, 0));
     CHECK(figured(nuvaskoe_figures(p6, sizeof p6, 2, 1000, NUVASKOE_EVENT_DISCARDED), NUVASKOE_UNAVAILABLE, 0, NUVASKOE_UNAVAILABLE, NUVASKOE_UNAVAILABLE));
+    CHECK(figured(nuvaskoe_figures(spread, sizeof spread, 1, 1000, NUVASKOE_EVENT_LOST), 32768, 0, 5, 8));
     CHECK(figured(nuvaskoe_figures(lost, 3, 16, 1000, NUVASKOE_EVENT_LOST), 32768, NUVASKOE_UNAVAILABLE, 3, 0));
     CHECK(figured(nuvaskoe_figures(lost, 1, 16, 1000, NUVASKOE_EVENT_LOST), NUVASKOE_UNAVAILABLE, 32768, NUVASKOE_UNAVAILABLE, NUVASKOE_UNAVAILABLE));
     CHECK(figured(nuvaskoe_figures(received, 3, 16, 1000, NUVASKOE_EVENT_LOST), NUVASKOE_UNAVAILABLE, 0, NUVASKOE_UNAVAILABLE, NUVASKOE_UNAVAILABLE));
@@ -147,7 +150,7 @@ static void check_tally(void)
         CHECK(whole.refusal.number == NUVASKOE_OK);
         CHECK(same_figures(nuvaskoe_tally_close(answer.tally).figures, whole.figures));
     }
-    CHECK(figured(nuvaskoe_tally_close(answer.tally), 26214, 5461, 2, 2));
+    CHECK(figured(nuvaskoe_tally_close(answer.tally), 26214, 5461, 2, 0));
 }
 
 static void check_tally_refused(void)
@@ -193,12 +196,12 @@ static void check_blocks(void)
     nuvaskoe_burst_figures figures = nuvaskoe_figures(p6, sizeof p6, 2, 1000, NUVASKOE_EVENT_LOST).figures;
     nuvaskoe_loss_summary loss = nuvaskoe_loss_block(figures, 0x01020304, 3);
     nuvaskoe_discard_summary discard = nuvaskoe_discard_block(figures, 0x05060708, 2);
-    static const uint32_t expected[6] = {3, 0x01020304, 26214, 5461, 2, 2};
+    static const uint32_t expected[6] = {3, 0x01020304, 26214, 5461, 2, 0};
     uint8_t packet[36];
     nuvaskoe_block block;
     CHECK(loss.flag == 3 && loss.source == 0x01020304);
     CHECK(loss.burst_rate == 26214 && loss.gap_rate == 5461);
-    CHECK(loss.burst_mean == 2 && loss.burst_variance == 2);
+    CHECK(loss.burst_mean == 2 && loss.burst_variance == 0);
     CHECK(discard.flag == 2 && discard.source == 0x05060708);
     CHECK(discard.burst_rate == 26214 && discard.gap_rate == 5461);
     CHECK(nuvaskoe_packet_new(1, packet, sizeof packet).size == 8);
@@ -282,8 +285,9 @@ static void check_trace_blocks(void)
 {
     static const uint8_t both[5] = {1, 1, 0, 0, 2};
     static const uint8_t discarded[3] = {2, 2, 2};
-    CHECK(is_loss(nuvaskoe_loss_of_trace(p6, sizeof p6, 2, 1000, 7, 3), 26214, 5461, 2, 2));
+    CHECK(is_loss(nuvaskoe_loss_of_trace(p6, sizeof p6, 2, 1000, 7, 3), 26214, 5461, 2, 0));
     CHECK(is_discard(nuvaskoe_discard_of_trace(p6, sizeof p6, 2, 1000, 7, 3), NUVASKOE_UNAVAILABLE, 0));
+    CHECK(is_loss(nuvaskoe_loss_of_trace(spread, sizeof spread, 1, 1000, 7, 3), 32768, 0, 5, 8));
     CHECK(is_loss(nuvaskoe_loss_of_trace(both, 5, 1, 1000, 7, 3), 32768, 0, 2, 0));
     CHECK(is_discard(nuvaskoe_discard_of_trace(both, 5, 1, 1000, 7, 3), NUVASKOE_UNAVAILABLE, 6553));
     CHECK(is_loss(nuvaskoe_loss_of_trace(discarded, 3, 16, 1000, 7, 3), NUVASKOE_UNAVAILABLE, 0, NUVASKOE_UNAVAILABLE, NUVASKOE_UNAVAILABLE));

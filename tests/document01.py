@@ -1,4 +1,5 @@
-"""Document 01 computed a second time, by its definitions alone, for tests/cases.py.
+"""Document 01 computed a second time, by its definitions alone, for tests/cases.py; the variance and the last line of a sound
+tally are those of document 02, ticket 3.
 
 Each function answers as the paper's paragraph of its name has it; a call that says no raises Refused with the number and
 place of the table "When the set says no". Speed does not matter here: plans are searched for, batches counted one by one.
@@ -205,16 +206,16 @@ def sums(trace, event, gmin, spacing):
             sum(time * time for time in times))
 
 
+def sent(measure):
+    return measure if measure <= GREATEST else OVER_RANGE
+
+
 def figures_of(E, L, Eb, Lb, n, S, Q):
     """Burst rate, gap rate, mean and variance, as a listing has them."""
     burst = Lb * 32768 // Eb if Eb else UNAVAILABLE
     gap = (L - Lb) * 32768 // (E - Eb) if E != Eb else UNAVAILABLE
-    mean = variance = UNAVAILABLE
-    if n:
-        m = S // n
-        v = Q // n - m * m
-        mean = m if m <= GREATEST else OVER_RANGE
-        variance = v if v <= GREATEST else OVER_RANGE
+    mean = sent(S // n) if n else UNAVAILABLE
+    variance = sent((n * Q - S * S) // (n * n)) if n else UNAVAILABLE
     return [figure(number) for number in (burst, gap, mean, variance)]
 
 
@@ -263,7 +264,6 @@ def with_stretch(spacing, counts):
 
 def sound(gmin, spacing, counts):
     E, L, Eb, Lb, n, S, Q = with_stretch(spacing, counts)
-    m = S // n if n else 0
     return all((
         1 <= gmin <= 255 and 1 <= spacing <= 40000,
         E <= MOST_PACKETS,
@@ -275,7 +275,7 @@ def sound(gmin, spacing, counts):
         all(count <= E for count in counts[7:]),
         S <= MOST_DURATION,
         Q <= S * S,
-        n == 0 or Q // n >= m * m,
+        n * Q >= S * S,
     ))
 
 

@@ -1,4 +1,4 @@
-"""Document 02's tickets computed a second time, by their definitions alone, over document 01's (document01.py)."""
+"""Document 02's ticket 1 computed a second time, by its definitions alone, over document 01's (document01.py)."""
 
 import itertools
 import struct

@@ -32,7 +32,7 @@ pub struct Figures {
 ///
 /// let figures = figures::of_trace(&[1, 0, 1, 0, 0, 1, 0, 0, 0, 1, 1], 2, 1_000, Event::Lost)?;
 /// assert_eq!((figures.burst_rate, figures.gap_rate), (Rate(26_214), Rate(5_461)));
-/// assert_eq!((figures.mean, figures.variance), (Figure(2), Figure(2)));
+/// assert_eq!((figures.mean, figures.variance), (Figure(2), Figure(0)));
 /// # Ok::<(), nuvaskoe::Refusal>(())
 /// ```
 pub fn of_trace(trace: &[u8], gmin: u32, spacing: u32, event: Event) -> Result<Figures, Refusal> {

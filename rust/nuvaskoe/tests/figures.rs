@@ -32,14 +32,14 @@ fn exchanged(trace: &[u8]) -> Vec<u8> {
     trace.iter().map(|packet| (3 - packet) % 3).collect()
 }
 
-/// P6 to P9 of document 01, for either event.
+/// P6 to P9 of document 01, P6 with document 02's variance, for either event.
 #[test]
 fn sheet() {
     let cases: [(&[u8], u32, _); 4] = [
         (
             &[1, 0, 1, 0, 0, 1, 0, 0, 0, 1, 1],
             2,
-            figures(26_214, 5_461, 2, 2),
+            figures(26_214, 5_461, 2, 0),
         ),
         (&[1, 1, 1], 16, figures(32_768, UNAVAILABLE, 3, 0)),
         (
@@ -222,21 +222,47 @@ fn bursts(lengths: &[usize]) -> Vec<u8> {
     trace
 }
 
-/// Mean and variance up to 65,533 are sent as they are; the mean in the variance is the
-/// whole one.
+/// Mean and variance of bursts of these lengths.
+fn measured(lengths: &[usize], spacing: u32) -> Answer<(u16, u16)> {
+    let answer = figures_both(&bursts(lengths), 1, spacing, LOST);
+    answer.map(|figures| (figures.mean, figures.variance))
+}
+
+/// The squares of the differences over all pairs, divided by n × n: 1 / 4, 74 / 9 and 256 / 64;
+/// and 0 of bursts of one duration.
+#[test]
+fn variances() {
+    assert_eq!(measured(&[3, 2], 1_000), Ok((2, 0)));
+    assert_eq!(measured(&[2, 5, 9], 1_000), Ok((5, 8)));
+    assert_eq!(measured(&[2, 4, 4, 4, 5, 5, 7, 9], 1_000), Ok((5, 4)));
+    for (lengths, spacing, mean) in [
+        (vec![2; 1], 499, 0),
+        (vec![2; 21_000], 1_000, 2),
+        (vec![600; 100], 40_000, 24_000),
+        (vec![30_000; 2], 40_000, OVER_RANGE),
+        // Of 1.2 and of 1.6 milliseconds.
+        (vec![3, 4, 4, 3], 400, 1),
+    ] {
+        assert_eq!(measured(&lengths, spacing), Ok((mean, 0)));
+    }
+}
+
+/// Mean and variance up to 65,533 are sent as they are.
 #[test]
 fn over_range() {
-    let measured = |lengths: &[usize], spacing| {
-        let answer = figures_both(&bursts(lengths), 1, spacing, LOST);
-        answer.map(|figures| (figures.mean, figures.variance))
-    };
     assert_eq!(measured(&[65_532], 1_000), Ok((65_532, 0)));
     assert_eq!(measured(&[65_533], 1_000), Ok((65_533, 0)));
     assert_eq!(measured(&[65_534], 1_000), Ok((OVER_RANGE, 0)));
     assert_eq!(measured(&[65_535], 1_000), Ok((OVER_RANGE, 0)));
-    // Half the difference, squared: 255, and 256.
+    // Half the difference, squared: 255, 255.5 and 256.
     assert_eq!(measured(&[2, 512], 1_000), Ok((257, 65_025)));
+    assert_eq!(measured(&[2, 513], 1_000), Ok((257, 65_280)));
     assert_eq!(measured(&[2, 514], 1_000), Ok((258, OVER_RANGE)));
+    // 589,794 / 9, 12,844,468 / 196 and 589,806 / 9: 65,532, 65,533 and 65,534.
+    assert_eq!(measured(&[2, 10, 549], 1_000), Ok((187, 65_532)));
+    let fourteen = [vec![2; 13], vec![996]].concat();
+    assert_eq!(measured(&fourteen, 1_000), Ok((73, 65_533)));
+    assert_eq!(measured(&[2, 308, 629], 1_000), Ok((313, OVER_RANGE)));
     // Both over range, and a variance of 400 with a mean over range.
     assert_eq!(
         measured(&[30_000, 20_000], 40_000),

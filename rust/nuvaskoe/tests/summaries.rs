@@ -108,7 +108,14 @@ type Measured<'a> = (&'a [u8], u32, [u16; 4], [u16; 2]);
 #[test]
 fn both_kinds_of_packets() {
     const NO_BURST: [u16; 4] = [UNAVAILABLE, 0, UNAVAILABLE, UNAVAILABLE];
-    let cases: [Measured; 5] = [
+    let cases: [Measured; 6] = [
+        // Bursts of 2 and 5 milliseconds: 9 / 4.
+        (
+            &[1, 1, 0, 1, 1, 1, 1, 1],
+            1,
+            [32_768, 0, 3, 2],
+            [UNAVAILABLE, 0],
+        ),
         // Two lost together, and one discarded by itself.
         (&[1, 1, 0, 0, 2], 1, [32_768, 0, 2, 0], [UNAVAILABLE, 6_553]),
         (

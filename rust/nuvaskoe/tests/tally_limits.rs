@@ -128,6 +128,28 @@ fn random_tallies() {
     afterwards.at_least(20_000, 100);
 }
 
+/// "Q ≤ S × S" and "n × Q ≥ S × S", for all small numbers: of closed bursts, and with an open
+/// one of 3 milliseconds counted in.
+#[test]
+fn the_lines_on_squares() {
+    let (mut seen, mut sound) = (Seen::default(), 0);
+    for (open, [n, s, q]) in [([0, 0], [0; 3]), ([2, 3], [1, 3, 9])] {
+        for bursts in 0..=4 {
+            for durations in 0..=12 {
+                for squares in 0..=durations * durations + 10 {
+                    let [n, s, q] = [n + bursts, s + durations, q + squares];
+                    sound += usize::from(q <= s * s && n * q >= s * s);
+                    let closed = [50, 20, 10, 8, bursts, durations, squares];
+                    let fields = [&closed[..], &open, &[0]].concat().try_into().unwrap();
+                    seen.check(tally(2, 1_000, Event::Lost, fields), 1);
+                    assert_eq!(seen.sound, sound, "{fields:?}");
+                }
+            }
+        }
+    }
+    seen.at_least(2_000, 2_000);
+}
+
 /// The bounds of the list, each just kept and just passed, of a tally with no open stretch
 /// and of the same with its last burst open.
 #[test]

@@ -140,15 +140,16 @@ fn hostile_sums(random: &mut Random, packets: u64, open: [u64; 5]) -> [u64; 7] {
     let in_gaps = around(random, packets.saturating_sub(all_burst_packets));
     let events = all_burst_events.wrapping_add(in_gaps);
     let bursts = around(random, (all_burst_packets / 2).saturating_sub(open[2]));
-    let longest = random.one_of(&[DURATIONS, all_burst_packets]);
-    let durations = around(random, longest.min(DURATIONS).saturating_sub(open[3]));
-    let (n, s) = (
-        bursts.saturating_add(open[2]),
-        durations.saturating_add(open[3]),
-    );
-    let mean = s.checked_div(n).unwrap_or(0);
-    let least = mean.wrapping_mul(mean).wrapping_mul(n);
+    let n = bursts.saturating_add(open[2]);
+    let longest = match n {
+        // Without a burst 0 alone is sound.
+        0 => random.one_of(&[0, 0, DURATIONS]),
+        _ => random.one_of(&[DURATIONS, all_burst_packets.min(DURATIONS)]),
+    };
+    let durations = around(random, longest.saturating_sub(open[3]));
+    let s = durations.saturating_add(open[3]);
     let most = s.wrapping_mul(s);
+    let least = most.div_ceil(n.max(1));
     let bound = random.one_of(&[least, least, most]);
     let squares = around(random, bound.wrapping_sub(open[4]));
     [
