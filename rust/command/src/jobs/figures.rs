@@ -24,7 +24,8 @@ next; a loss by itself lies in a gap. Each figure is given as the 16-bit number
 that a report packet holds, and in words. The number is rounded down, and the
 words are those of the number: 4 of 5 lost is 79.999 %. The number 65535 is of
 a figure that could not be measured, 65534 of a mean or variance that is too
-large to send.
+large to send. Mean and variance are of how long the bursts lasted; the variance
+is divided by the number of bursts, where RFC 7004 divides by one less.
 ",
     options: &[CARD, GMIN, BATCH, THRESHOLD, SPACING, FORM, JSON],
     takes: trace::ONE,
@@ -37,7 +38,7 @@ lost
   burst rate      26214  79.999 % of the packets in bursts were lost
   gap rate         5461  16.666 % of the packets outside bursts were lost
   burst mean          2  2 milliseconds
-  burst variance      2  2 square milliseconds
+  burst variance      0  0 square milliseconds
 discarded
   burst rate      65535  could not be measured: there were no packets in bursts
   gap rate            0  0.000 %, fewer than 1 in 32768, of the packets outside bursts were discarded
