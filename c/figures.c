@@ -5,7 +5,7 @@
 
 /* P6 of document 01: bursts of three packets and of two, Gmin 2. */
 static const uint8_t p6[11] = {1, 0, 1, 0, 0, 1, 0, 0, 0, 1, 1};
-/* Bursts of 2, 5 and 9 packets: the variance is (3 * 110 - 16 * 16) / 9, of 74. */
+/* Bursts of 2, 5 and 9 packets: the variance is the integer part of (3 * 110 - 16 * 16) / 9 = 74 / 9. */
 static const uint8_t spread[18] = {1, 1, 0, 1, 1, 1, 1, 1, 0, 1, 1, 1, 1, 1, 1, 1, 1, 1};
 
 static uint8_t longest[NUVASKOE_TRACE_MAX + 1];

@@ -1,5 +1,5 @@
 -- Sums, figures, blocks and effective loss are what the formulas say: `AsPublished` of specs/Formulas.antt. Assumes nothing.
-use Prim.Native.Nat.{ℕ, _-_}
+use Prim.Native.Nat.{ℕ, _-_, _<_}
 use mathlib.Core.Path.{_≡_, refl, sym, _∙_}
 use mathlib.Core.Bool.{Bool}
 use mathlib.Core.List.{List}
@@ -25,7 +25,9 @@ use Rattle.bursts.specs.Figures.{ranged, meanDuration, durationVariance, figure
 use Rattle.bursts.specs.Laws.{Uncut}
 use Rattle.bursts.proofs.Grouping.{are}
 use Rattle.bursts.proofs.Positions.{events-are, sums-counted}
-use Rattle.bursts.proofs.Spread.{spread-uncut}
+use Rattle.bursts.specs.Grouping.{group}
+use Rattle.bursts.specs.Spread.{burstsIn}
+use Rattle.bursts.proofs.Spread.{spread-uncut, variance-alike}
 use Rattle.bursts.proofs.Cases.{some-rate, in-range, over-range, some-mean, some-variance}
 use Rattle.tally.specs.declared.Tally.{Tally}
 use Rattle.tally.specs.declared.Opened.the-variants.{Accepted as Opened·Accepted, Refused as Opened·Refused}
@@ -40,7 +42,7 @@ use Rattle.batch.specs.Batches.{overCount}
 use Rattle.batch.specs.Judging.{judgedFor}
 use Rattle.batch.specs.Loss.{lossOf, lossAnswer}
 use Rattle.batch.proofs.Counting.{first-means}
-use Rattle.demands.specs.Formulas.{SumsFormulas, Rates, Capped, MeanAndVariance, FiguresFormulas, Block17, Block18, EffectiveLossFormulas, AsPublished, NeverUnavailable}
+use Rattle.demands.specs.Formulas.{lasts, SumsFormulas, Rates, Capped, MeanAndVariance, FiguresFormulas, Block17, Block18, EffectiveLossFormulas, AsPublished, NeverUnavailable}
 
 sums : (event : Event) (gmin spacing : ℕ) (s : List ℕ) → SumsFormulas event gmin spacing s (sumsOf (countsAs event) gmin spacing s)
 unfolding sumsOver duration
@@ -79,16 +81,28 @@ formulas r u =
 refused : (f : Figures) → Refused setting ≡ Accepted f → ⊥
 refused f e = let z : _≡_ {A = ℕ} 0 1 = cc in omega arith
 
-trace-figures : (event : Event) (gmin spacing : ℕ) (s : List ℕ) (f : Figures) → figuresIn gmin spacing event s ≡ Accepted f → FiguresFormulas (sumsOf (countsAs event) gmin spacing s) f
+trace-same : (event : Event) (gmin spacing : ℕ) (s : List ℕ) (f : Figures) → figuresIn gmin spacing event s ≡ Accepted f → figuresOf (sumsOf (countsAs event) gmin spacing s) ≡ f
 unfolding figuresIn
-trace-figures event gmin spacing s f h = go (judged s) (passed (burstInRange gmin spacing) (Refused setting) _ (Accepted f) (refused f) h .1)
+trace-same event gmin spacing s f h = go (judged s) (passed (burstInRange gmin spacing) (Refused setting) _ (Accepted f) (refused f) h .1)
   where
     r : Sums
     r = sumsOf (countsAs event) gmin spacing s
 
-    go : (j : Judged) → ifAccepted j Refused (Accepted (figuresOf r)) ≡ Accepted f → FiguresFormulas r f
-    go Judged·Accepted e = let same : figuresOf r ≡ f = cc in rw (← same) (formulas r (trace-right gmin spacing event s f h .1))
+    go : (j : Judged) → ifAccepted j Refused (Accepted (figuresOf r)) ≡ Accepted f → figuresOf r ≡ f
+    go Judged·Accepted e = cc
     go (Judged·Refused why) e = let z : _≡_ {A = ℕ} 0 1 = cc in absurd (omega arith)
+
+trace-figures : (event : Event) (gmin spacing : ℕ) (s : List ℕ) (f : Figures) → figuresIn gmin spacing event s ≡ Accepted f → FiguresFormulas (sumsOf (countsAs event) gmin spacing s) f
+trace-figures event gmin spacing s f h =
+    rw (← trace-same event gmin spacing s f h) (formulas (sumsOf (countsAs event) gmin spacing s) (trace-right gmin spacing event s f h .1))
+
+one-duration : (event : Event) (gmin spacing d : ℕ) (s : List ℕ) (f : Figures) → figuresIn gmin spacing event s ≡ Accepted f →
+    0 < length (burstsIn (countsAs event) gmin s) →
+    ((k : ℕ) → k < length (burstsIn (countsAs event) gmin s) → lasts spacing (group (burstsIn (countsAs event) gmin s) k) ≡ d) →
+    f .«burst_variance» ≡ 0
+unfolding figuresOf duration
+one-duration event gmin spacing d s f h some alike =
+    rw (← trace-same event gmin spacing s f h) (variance-alike (countsAs event) gmin spacing d s some alike)
 
 tally-figures : (t : Tally) (f : Figures) → closeOf t ≡ Accepted f → FiguresFormulas (counted t) f
 unfolding closeOf
@@ -140,6 +154,7 @@ as-published =
     record {
       sums = sums;
       trace-figures = trace-figures;
+      one-duration = one-duration;
       trace-17 = λ event gmin spacing s source flag. block-17 (sumsOf (countsAs event) gmin spacing s) event source flag (figuresIn gmin spacing event s) (trace-figures event gmin spacing s);
       trace-18 = λ event gmin spacing s source flag. block-18 (sumsOf (countsAs event) gmin spacing s) event source flag (figuresIn gmin spacing event s) (trace-figures event gmin spacing s);
       tally-figures = tally-figures;

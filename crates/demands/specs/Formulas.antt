@@ -18,7 +18,8 @@ use Rattle.bursts.specs.declared.Figures.{Figures}
 use Rattle.bursts.specs.declared.FiguresRead.the-variants.{Accepted}
 use Rattle.bursts.specs.Groups.{Group, burstsOf, packetsOf, total}
 use Rattle.bursts.specs.Sums.{sumsOf}
-use Rattle.bursts.specs.Grouping.{IsEvents, IsGrouping, ByPosition}
+use Rattle.bursts.specs.Grouping.{IsEvents, group, IsGrouping, ByPosition}
+use Rattle.bursts.specs.Spread.{burstsIn}
 use Rattle.tally.specs.declared.Tally.{Tally}
 use Rattle.tally.specs.declared.Opened.the-variants.{Accepted as Opened·Accepted}
 use Rattle.tally.specs.Tally.{openOf, counted, takeAll, closeOf}
@@ -85,6 +86,11 @@ pub record AsPublished : Type 0 where
   -- of a trace: figures, and the blocks that carry them
   pub trace-figures : (event : Event) (gmin spacing : ℕ) (s : List ℕ) (f : Figures) → figuresIn gmin spacing event s ≡ Accepted f →
       FiguresFormulas (sumsOf (countsAs event) gmin spacing s) f
+  -- bursts of one duration have variance 0
+  pub one-duration : (event : Event) (gmin spacing d : ℕ) (s : List ℕ) (f : Figures) → figuresIn gmin spacing event s ≡ Accepted f →
+      0 < length (burstsIn (countsAs event) gmin s) →
+      ((k : ℕ) → k < length (burstsIn (countsAs event) gmin s) → lasts spacing (group (burstsIn (countsAs event) gmin s) k) ≡ d) →
+      f .«burst_variance» ≡ 0
   pub trace-17 : (event : Event) (gmin spacing : ℕ) (s : List ℕ) (source flag : ℕ) (l : LossSummary) →
       summaryOf event source flag (figuresIn gmin spacing event s) ≡ Loss l → Block17 event (sumsOf (countsAs event) gmin spacing s) l
   pub trace-18 : (event : Event) (gmin spacing : ℕ) (s : List ℕ) (source flag : ℕ) (d : DiscardSummary) →
