@@ -1,4 +1,5 @@
 pub mod Cells
 pub mod Cases
+pub mod Good
 pub mod Reasons
 pub mod Reserved

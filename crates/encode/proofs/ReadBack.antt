@@ -1,17 +1,15 @@
 -- A block written is read as itself: `Read-back` of specs/Laws.antt. Assumes nothing.
 use Prim.Native.Nat.{ℕ, _+_, _*_, _/_, _%_}
 use mathlib.Core.Path.{_≡_}
-use mathlib.Core.Bool.{true, _&&_}
+use mathlib.Core.Bool.{true}
 use native.Mathlib.Omega.{arith}
-use borrow.Author.Tests.{leb-true}
-use lib.Dec.{leb}
-use Rattle.refusal.proofs.Tests.{and-left, and-right}
 use Rattle.wire.specs.BigEndian.{be16, be32}
 use Rattle.block.specs.Layouts.{flagIn, measurementIn, lossIn, discardIn, effectiveIn, streamsIn}
-use Rattle.block.specs.Reading.{rateGood, flagGood, summaryGood, readMeasurement, readLoss, readDiscard, readEffective, readStreams, readBlock}
+use Rattle.block.specs.Reading.{summaryGood, readMeasurement, readLoss, readDiscard, readEffective, readStreams, readBlock}
 use Rattle.block.specs.declared.Block.{Block}
 use Rattle.block.specs.declared.Block.the-variants.{Measured, Loss, Discard, Effective, Streams}
 use Rattle.block.specs.declared.BlockRead.the-variants.{Typed}
+use Rattle.block.proofs.Good.{good-fits}
 use Rattle.block.proofs.Cases.{bytes-read, good-typed}
 use Rattle.encode.specs.Words.{halves, flagByte, typeOf, specificOf, bodyWords, inBytes, writable}
 use Rattle.encode.specs.Laws.{Half, Word, Fits, Read-back}
@@ -29,10 +27,7 @@ low h l q = omega arith
 
 -- a flag that may be written comes back from its two bits
 flag-back : (flag burst gap : ℕ) → summaryGood flag burst gap ≡ true → flagIn (flagByte flag) ≡ flag
-unfolding summaryGood flagGood
-flag-back flag burst gap good =
-    let small = leb-true flag 3 (and-right (leb 1 flag) (leb flag 3) (and-left (flagGood flag) (rateGood burst && rateGood gap) good)) in
-    omega arith
+flag-back flag burst gap good = let small = good-fits flag burst gap good .0 in omega arith
 
 typed-back : (b : Block) → Fits b → writable b ≡ true → readBlock (typeOf b) (specificOf b) (inBytes (bodyWords b)) ≡ Typed b
 unfolding readBlock readMeasurement readLoss readDiscard readEffective readStreams measurementIn lossIn discardIn effectiveIn streamsIn be32 be16
