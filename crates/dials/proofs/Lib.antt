@@ -1,0 +1,3 @@
+pub mod Value
+pub mod Order
+pub mod Panels
