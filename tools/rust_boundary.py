@@ -102,7 +102,8 @@ def boundary_rs(source, header):
     out += ["use std::mem::{offset_of, size_of};", ""]
     out += [f"pub(crate) const {name}: {kind} = {number};" for name, kind, number in header.constants]
     for s in structs:
-        out += ["", "#[repr(C)]", "#[derive(Debug, Clone, Copy, PartialEq, Eq)]", f"pub(crate) struct {camel(s.c_name)} {{"]
+        traits = "PartialEq" if floating(source, s) else "PartialEq, Eq"
+        out += ["", "#[repr(C)]", f"#[derive(Debug, Clone, Copy, {traits})]", f"pub(crate) struct {camel(s.c_name)} {{"]
         out += [f"    pub(crate) {name}: {kind_of(source, kind)}," for name, kind, _ in s.fields] + ["}"]
     out += ["", "extern \"C\" {"] + [declared(source, call) for call in source.calls]
     out += ["}", "", LAYOUT, "pub(crate) const LAYOUTS: &[Layout] = &["]
@@ -110,6 +111,12 @@ def boundary_rs(source, header):
         fields = ", ".join(f"{name}: {kind_of(source, kind)}" for name, kind, _ in s.fields)
         out.append(f"    layout!(\"{s.c_name}\", {camel(s.c_name)} {{ {fields} }}),")
     return "\n".join(out + ["];"]) + "\n"
+
+
+def floating(source, s):
+    """Whether a struct holds a float, in itself or in a struct of its own."""
+    kinds = [re.sub(r"\[(\w+);.*", r"\1", kind) for _, kind, _ in s.fields]
+    return any(kind == "f32" or kind in source.structs and floating(source, source.structs[kind]) for kind in kinds)
 
 
 def kind_of(source, kind):
