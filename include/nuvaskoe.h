@@ -497,6 +497,41 @@ nuvaskoe_loss nuvaskoe_effective_loss(const uint8_t *trace, size_t trace_len, ui
 nuvaskoe_marks nuvaskoe_resend_plan(const uint8_t *trace, size_t trace_len, uint32_t batch, uint32_t threshold,
                                     uint8_t *out, size_t out_len);
 
+/*
+ * The front panel: two needles, burst and gap, and a lamp, as one block sets them. Shown is a block 17 or 18 that is given as
+ * a value or was read as typed, where adding it to a packet would not be refused with 16: each needle is lit at its rate, or
+ * dark where that is unavailable. Everything else leaves both needles dark and the lamp off: a refused packet or index, and a
+ * block that is unknown, dropped or of another type. None of these calls is refused.
+ */
+
+/* A needle of the front panel. */
+typedef struct nuvaskoe_needle {
+    uint32_t lit; /* 1 where it is lit, 0 where it is dark */
+    float position; /* from 0 to 1: the rate divided by NUVASKOE_RATE_MAX, exactly; 0 where it is dark */
+} nuvaskoe_needle;
+
+/* The setting of the front panel. */
+typedef struct nuvaskoe_panel {
+    nuvaskoe_needle burst;
+    nuvaskoe_needle gap;
+    uint32_t lamp; /* 1 exactly where at least one needle is lit */
+} nuvaskoe_panel;
+
+/* The panel of block number index of a packet. Both needles are dark where nuvaskoe_packet_block refuses. */
+nuvaskoe_panel nuvaskoe_panel_of_packet(const uint8_t *packet, size_t packet_len, size_t index);
+
+/*
+ * The panel of what was read: of a block that nuvaskoe_packet_block or nuvaskoe_block_read answered. One made by hand is shown
+ * where its refusal is 0, its verdict typed, its type 17 or 18, and its interval flag and rates are good.
+ */
+nuvaskoe_panel nuvaskoe_panel_of_read(nuvaskoe_block block);
+
+/* The panel of a block 17. */
+nuvaskoe_panel nuvaskoe_panel_of_loss(nuvaskoe_loss_summary block);
+
+/* The panel of a block 18. */
+nuvaskoe_panel nuvaskoe_panel_of_discard(nuvaskoe_discard_summary block);
+
 /* What went wrong, by a refusal's number. Empty for any other number. */
 static inline const char *nuvaskoe_refusal_meaning(uint32_t number)
 {

@@ -232,6 +232,21 @@ pub(crate) struct Marks {
     pub(crate) marks: usize,
 }
 
+#[repr(C)]
+#[derive(Debug, Clone, Copy, PartialEq)]
+pub(crate) struct Needle {
+    pub(crate) lit: u32,
+    pub(crate) position: f32,
+}
+
+#[repr(C)]
+#[derive(Debug, Clone, Copy, PartialEq)]
+pub(crate) struct Panel {
+    pub(crate) burst: Needle,
+    pub(crate) gap: Needle,
+    pub(crate) lamp: u32,
+}
+
 extern "C" {
     pub(crate) fn nuvaskoe_version() -> u32;
     pub(crate) fn nuvaskoe_card_read(card: *const u8, card_len: usize) -> Card;
@@ -259,6 +274,10 @@ extern "C" {
     pub(crate) fn nuvaskoe_tally_block(tally: Tally, source: u32, flag: u8) -> Summary;
     pub(crate) fn nuvaskoe_effective_loss(trace: *const u8, trace_len: usize, batch: u32, threshold: u32) -> Loss;
     pub(crate) fn nuvaskoe_resend_plan(trace: *const u8, trace_len: usize, batch: u32, threshold: u32, out: *mut u8, out_len: usize) -> Marks;
+    pub(crate) fn nuvaskoe_panel_of_packet(packet: *const u8, packet_len: usize, index: usize) -> Panel;
+    pub(crate) fn nuvaskoe_panel_of_read(block: Block) -> Panel;
+    pub(crate) fn nuvaskoe_panel_of_loss(block: LossSummary) -> Panel;
+    pub(crate) fn nuvaskoe_panel_of_discard(block: DiscardSummary) -> Panel;
 }
 
 /// C name and size of every struct, and the name, offset and size of each field.
@@ -293,4 +312,6 @@ pub(crate) const LAYOUTS: &[Layout] = &[
     layout!("nuvaskoe_tallied", Tallied { refusal: Refusal, tally: Tally }),
     layout!("nuvaskoe_loss", Loss { refusal: Refusal, over: usize, batches: usize, first: usize, index: u32, found: u32 }),
     layout!("nuvaskoe_marks", Marks { refusal: Refusal, marks: usize }),
+    layout!("nuvaskoe_needle", Needle { lit: u32, position: f32 }),
+    layout!("nuvaskoe_panel", Panel { burst: Needle, gap: Needle, lamp: u32 }),
 ];
