@@ -37,6 +37,7 @@ use Rattle.demands.proofs.Orders.{each-call}
 use Rattle.demands.proofs.Boundary.{at-boundary}
 use Rattle.demands.proofs.Packets.{packets-read, packets-written, blocks-again}
 use Rattle.demands.proofs.Formulas.{as-published, never-unavailable}
+use Rattle.demands.proofs.Panels.{panels-shown}
 
 kept : (answer : Written) (result out : List ℕ) (r : Refusal) → answer ≡ Refused r → after answer result out ≡ out
 kept answer result out r h = rw h
@@ -91,6 +92,7 @@ demand-2 =
             turned = turned-round;
             room = room-enough;
           };
+      panels-shown = panels-shown;
       as-published = as-published;
       never-unavailable = never-unavailable;
       cards-guarded =

@@ -3,4 +3,5 @@ pub mod Boundary
 pub mod Places
 pub mod Packets
 pub mod Formulas
+pub mod Panels
 pub mod Demands

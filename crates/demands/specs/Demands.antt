@@ -17,6 +17,7 @@ use Rattle.demands.specs.Lent.{Unchanged}
 use Rattle.demands.specs.Boundary.{AtBoundary}
 use Rattle.demands.specs.Packets.{PacketsRead, PacketsWritten, BlocksAgain, PacketsCompared}
 use Rattle.demands.specs.Formulas.{AsPublished, NeverUnavailable}
+use Rattle.demands.specs.Panels.{PanelsShown}
 use Rattle.demands.specs.Cards.{CardsGuarded}
 
 -- 1.
@@ -38,6 +39,8 @@ pub record Demand2 : Type 0 where
   pub blocks-again : BlocksAgain
   -- document 02, ticket 1: "lists every differing field of their two packets, blocks paired by index"
   pub packets-compared : PacketsCompared
+  -- document 02, ticket 4: "The panel shows only a block 17 or 18 that refusal 16 lets through"
+  pub panels-shown : PanelsShown
   -- "Burst, gap and effective loss figures equal their published formulas,"
   pub as-published : AsPublished
   -- "and a figure that could be measured is never sent as unavailable."

@@ -5,5 +5,6 @@ pub mod Lent
 pub mod Places
 pub mod Packets
 pub mod Formulas
+pub mod Panels
 pub mod Cards
 pub mod Demands
