@@ -7,17 +7,21 @@
 //!
 //! It runs CASES cases, a million unless given, from number FIRST, 0 unless given; the calls
 //! take turns. `NUVASKOE_CASES` and `NUVASKOE_SEED` stand for the first two. A case compares
-//! the whole answer of the boundary, that of the safe call and every lent byte. The run ends
-//! with how many cases of each call were answered and how many refused, by number; at the
-//! first difference it ends with status 1, the seed, the case and its input.
+//! the whole answer of the boundary, that of the safe call and every lent byte. Before the first
+//! case all 65,536 rates are compared on both needles of the panel; a difference there ends it with
+//! status 1 and the block. The run ends with how many cases of each call were answered and how many
+//! refused, by number; at the first difference it ends with status 1, the seed, the case and its
+//! input.
 
 #[path = "../tests/support/mod.rs"]
 mod support;
 
-use std::{env, process::exit};
+use std::{env, panic::catch_unwind, process::exit};
 use support::{
     calls::{compare_cases, ENOUGH},
-    from_env, seed,
+    from_env,
+    panels::every_rate,
+    seed,
 };
 
 const CASES: u64 = 1_000_000;
@@ -34,6 +38,10 @@ fn main() {
         .unwrap_or_else(|| from_env("NUVASKOE_CASES", CASES));
     let seed = arguments.next().unwrap_or_else(seed);
     let first = arguments.next().unwrap_or(0);
+    if first == 0 {
+        catch_unwind(every_rate).unwrap_or_else(|_| exit(1));
+        println!("every rate on both needles of the panel: no difference");
+    }
     println!("NUVASKOE_SEED={seed}, {cases} cases from case {first}");
     match compare_cases(seed, first..first.saturating_add(cases)) {
         Ok(counts) => {

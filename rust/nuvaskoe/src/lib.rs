@@ -27,6 +27,7 @@ pub mod card;
 pub mod effective;
 pub mod figures;
 pub mod packet;
+pub mod panel;
 #[rustfmt::skip]
 mod refusals;
 pub mod resend;

@@ -19,6 +19,7 @@ pub mod measuring;
 pub mod numbers;
 pub mod packets;
 pub mod pairs;
+pub mod panels;
 pub mod raw;
 pub mod tallies;
 

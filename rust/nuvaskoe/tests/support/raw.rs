@@ -129,3 +129,23 @@ pub fn resend_plan(trace: &[u8], batch: u32, threshold: u32, out: &mut [u8]) -> 
     // SAFETY: as above.
     unsafe { boundary::nuvaskoe_resend_plan(start, length, batch, threshold, out, room) }
 }
+
+pub fn panel_of_packet(packet: &[u8], index: usize) -> Panel {
+    // SAFETY: as above.
+    unsafe { boundary::nuvaskoe_panel_of_packet(packet.as_ptr(), packet.len(), index) }
+}
+
+pub fn panel_of_read(block: Block) -> Panel {
+    // SAFETY: it takes any numbers.
+    unsafe { boundary::nuvaskoe_panel_of_read(block) }
+}
+
+pub fn panel_of_loss(block: LossSummary) -> Panel {
+    // SAFETY: it takes any numbers.
+    unsafe { boundary::nuvaskoe_panel_of_loss(block) }
+}
+
+pub fn panel_of_discard(block: DiscardSummary) -> Panel {
+    // SAFETY: it takes any numbers.
+    unsafe { boundary::nuvaskoe_panel_of_discard(block) }
+}

@@ -5,6 +5,7 @@
 mod batches;
 mod cards;
 mod measuring;
+mod panels;
 mod reading;
 mod writing;
 
@@ -67,6 +68,7 @@ pub fn calls() -> Vec<Call> {
     calls.extend(writing::calls());
     calls.extend(measuring::calls());
     calls.extend(batches::calls());
+    calls.extend(panels::calls());
     calls
 }
 

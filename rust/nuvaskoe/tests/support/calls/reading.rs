@@ -52,7 +52,7 @@ pub fn calls() -> Vec<Call> {
 }
 
 /// A packet, and the index of a block or one that has none.
-fn indexed(random: &mut Random) -> (Vec<u8>, usize) {
+pub(super) fn indexed(random: &mut Random) -> (Vec<u8>, usize) {
     let packet = any_packet(random);
     let count = blocks(&packet);
     let index = match random.below(8) {
