@@ -20,6 +20,7 @@ static void check_reading(void)
     CHECK(refused(nuvaskoe_packet_list(NULL, 0, &held, 1).refusal, NUVASKOE_REFUSAL_PACKET_SHORT));
     CHECK(held == 7);
     CHECK(refused(nuvaskoe_packet_list(NULL, 0, NULL, 0).refusal, NUVASKOE_REFUSAL_PACKET_SHORT));
+    CHECK(nuvaskoe_panel_of_packet(NULL, 0, 0).lamp == 0);
     CHECK(nuvaskoe_block_read(9, 0, NULL, 0).verdict == NUVASKOE_VERDICT_UNKNOWN);
     CHECK(nuvaskoe_block_read(NUVASKOE_BLOCK_LOSS, 64, NULL, 0).verdict == NUVASKOE_VERDICT_BAD_SIZE);
 }
