@@ -20,7 +20,8 @@
 //!   `loss` effective loss; in rows "B x by B y" both times are ours, with batches of x and y;
 //! - tallies: `open`, `take` one packet and `close`, after as many packets as there are bytes
 //!   in the row; `tally` is all three over the trace named, each packet taken in turn;
-//! - `block` makes the block of a trace, of a tally or of figures.
+//! - `block` makes the block of a trace, of a tally or of figures;
+//! - `panel` sets the front panel by a block given, one that was read, or the first of a packet.
 
 #[path = "../../tests/support/mod.rs"]
 mod support;
@@ -29,6 +30,7 @@ mod batches;
 mod cards;
 mod comparing;
 mod measuring;
+mod panels;
 mod reading;
 mod tallies;
 mod writing;
@@ -89,4 +91,5 @@ fn main() {
     measuring::time(&traces);
     tallies::time(&traces);
     batches::time();
+    panels::time();
 }
