@@ -28,6 +28,8 @@ TALLY = "event gmin spacing E L Eb Lb n S Q events packets since"
 NUMBERS = {
     "read": ("LEN", "bytes"), "block": ("k LEN", "bytes"), "body": ("k LEN", "bytes"), "list": ("ENTRIES LEN", "bytes"),
     "compare": ("NUMBERS LEN LEN", "pair"),
+    "panel": ("k LEN", "bytes"), "panelalone": ("type specific LEN", "bytes"),
+    "panel17": ("flag source burst gap mean var", None), "panel18": ("flag source burst gap", None),
     "alone": ("type specific LEN", "bytes"), "new": ("sender ROOM", None),
     "add14": ("source first efirst elast interval seconds fraction LEN", "bytes"),
     "add17": ("flag source burst gap mean var LEN", "bytes"), "add18": ("flag source burst gap LEN", "bytes"),
@@ -169,6 +171,8 @@ def asking(word, numbers, data):
         return "body at {} bytes {}".format(*document01.body_part(numbers[0], data))
     if word == "alone":
         return document01.alone(numbers[0], numbers[1], data)
+    if word.startswith("panel"):
+        return document02.panel(panel_needles(word, numbers, data))
     if word == "card":
         return document01.card(data)
     if word == "loss":
@@ -186,6 +190,14 @@ def asking(word, numbers, data):
     if word == "tallyblock":
         return document01.block_of_tally(*numbers[:3], numbers[3:13], *numbers[13:])
     return "taken " + " ".join(str(count) for count in document01.take(*numbers[:3], numbers[3:13], numbers[13]))
+
+
+def panel_needles(word, numbers, data):
+    if word == "panel":
+        return document02.needles_at(numbers[0], data)
+    if word == "panelalone":
+        return document02.needles_of(*numbers[:2], data, None)
+    return document02.needles(int(word.removeprefix("panel")), numbers[0], numbers[2:4])
 
 
 def answer(line):

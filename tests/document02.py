@@ -1,9 +1,9 @@
-"""Document 02's ticket 1 computed a second time, by its definitions alone, over document 01's (document01.py)."""
+"""Document 02's tickets 1 and 4 computed a second time, by their definitions alone, over document 01's (document01.py)."""
 
 import itertools
 import struct
 
-from document01 import LAYOUTS, WORDS, measured_sources, number_at, packet_blocks, reason, refuse_if
+from document01 import LAYOUTS, UNAVAILABLE, WORDS, Refused, measured_sources, number_at, packet_blocks, reason, refuse_if
 
 
 # Ticket 1: two packets compared
@@ -55,3 +55,39 @@ def differences(first, second, room):
     entries = compare(first, second)
     refuse_if(room < 5 * len(entries), 8)
     return list(itertools.chain.from_iterable(entries))
+
+
+# Ticket 4: the front panel
+
+DARK = (None, None)
+
+
+def needles(kind, flag, rates):
+    """The burst and the gap needle of a block: a fraction, or None where it is dark. "The panel shows only a block 17 or 18 that
+    refusal 16 lets through"."""
+    if kind not in (17, 18) or flag not in (1, 2, 3) or any(32768 < rate < UNAVAILABLE for rate in rates):
+        return DARK
+    return tuple(None if rate == UNAVAILABLE else rate / 32768 for rate in rates)
+
+
+def needles_of(kind, specific, body, sources):
+    """The needles of a block that was read; "dropped blocks included" are dark."""
+    if kind not in WORDS or reason(kind, specific, body, sources) != 0:
+        return DARK
+    return needles(kind, specific // 64, [number_at(body, at, 2) for at in (4, 6)])
+
+
+def needles_at(index, packet):
+    """The needles of a block of a packet; none where the packet or the index is refused."""
+    try:
+        blocks = packet_blocks(packet)
+        refuse_if(index >= len(blocks), 7)
+    except Refused:
+        return DARK
+    return needles_of(*blocks[index][1:], measured_sources(blocks))
+
+
+def panel(needles):
+    """Each needle by the bits of its f32 and the lamp, which "is on exactly when at least one needle is lit"."""
+    burst, gap = ("dark" if needle is None else struct.pack(">f", needle).hex() for needle in needles)
+    return f"burst {burst} gap {gap} lamp {'off' if needles == DARK else 'on'}"

@@ -7,7 +7,7 @@ use nuvaskoe::card::{self, Settings};
 use nuvaskoe::tally::{Stretch, Sums, Tally};
 use nuvaskoe::trace::Event;
 use nuvaskoe::values::{EffectiveIndex, Figure, Rate};
-use nuvaskoe::{effective, figures, packet, resend, Refusal};
+use nuvaskoe::{effective, figures, packet, panel, resend, Refusal};
 
 /// What a lent byte or entry holds before the call.
 const HELD: u8 = 7;
@@ -29,6 +29,12 @@ pub fn answer(case: &Case) -> Option<String> {
             let (block_type, specific) = (u8::try_from(n[0]).ok()?, u8::try_from(n[1]).ok()?);
             shown::line(0, &block::read(block_type, specific, data), data.len())
         }
+        "panel" => shown::panel(&panel::of_packet(data, n[0] as usize)),
+        "panelalone" => {
+            let (block_type, specific) = (u8::try_from(n[0]).ok()?, u8::try_from(n[1]).ok()?);
+            shown::panel(&panel::of_reading(&block::read(block_type, specific, data)))
+        }
+        "panel17" | "panel18" => shown::panel(&panel::of_block(&given(case.word, n)?)),
         "new" => lending(n[1], |lent| packet::new(n[0], lent)),
         "card" => shown::or_refused(card::read(data), |set| {
             let (gmin, batch, threshold) = (set.gmin, set.batch, set.threshold);
@@ -183,10 +189,18 @@ fn taken(tally: &Tally) -> String {
 
 /// A block added to the packet at the front of the data.
 fn adding(word: &str, n: &[u32], data: &[u8]) -> Option<String> {
+    let block = given(word, n)?;
+    let mut buffer = data.to_vec();
+    let answer = packet::add(&mut buffer, &block);
+    Some(shown::or_refused(answer, |size| format!("size {size}")) + &shown::bytes(&buffer))
+}
+
+/// The block that the numbers of a case are.
+fn given(word: &str, n: &[u32]) -> Option<Block> {
     let short = |place: usize| u16::try_from(n[place]).ok();
     let rate = |place: usize| short(place).map(Rate);
     let flag = || u8::try_from(n[0]).ok();
-    let block = match word {
+    Some(match word {
         "add14" => Block::Measurement(Measurement {
             source: n[0],
             first: short(1)?,
@@ -196,7 +210,7 @@ fn adding(word: &str, n: &[u32], data: &[u8]) -> Option<String> {
             seconds: n[5],
             fraction: n[6],
         }),
-        "add17" => Block::Loss(Loss {
+        "add17" | "panel17" => Block::Loss(Loss {
             flag: flag()?,
             source: n[1],
             burst_rate: rate(2)?,
@@ -204,7 +218,7 @@ fn adding(word: &str, n: &[u32], data: &[u8]) -> Option<String> {
             mean: Figure(short(4)?),
             variance: Figure(short(5)?),
         }),
-        "add18" => Block::Discard(Discard {
+        "add18" | "panel18" => Block::Discard(Discard {
             flag: flag()?,
             source: n[1],
             burst_rate: rate(2)?,
@@ -221,8 +235,5 @@ fn adding(word: &str, n: &[u32], data: &[u8]) -> Option<String> {
             streams: n[3],
             counts: n[4..12].try_into().expect("eight counts"),
         }),
-    };
-    let mut buffer = data.to_vec();
-    let answer = packet::add(&mut buffer, &block);
-    Some(shown::or_refused(answer, |size| format!("size {size}")) + &shown::bytes(&buffer))
+    })
 }

@@ -15,13 +15,17 @@ enum Data {
 }
 
 /// Each word, how many numbers it takes, which of them are sizes, and its data.
-const WORDS: [(&str, usize, &[usize], Data); 23] = [
+const WORDS: [(&str, usize, &[usize], Data); 27] = [
     ("read", 1, &[0], Data::Bytes),
     ("block", 2, &[1], Data::Bytes),
     ("body", 2, &[1], Data::Bytes),
     ("list", 2, &[0, 1], Data::Bytes),
     ("compare", 3, &[0, 1, 2], Data::Pair),
     ("alone", 3, &[2], Data::Bytes),
+    ("panel", 2, &[1], Data::Bytes),
+    ("panelalone", 3, &[2], Data::Bytes),
+    ("panel17", 6, &[], Data::Nothing),
+    ("panel18", 4, &[], Data::Nothing),
     ("new", 2, &[1], Data::Nothing),
     ("add14", 8, &[7], Data::Bytes),
     ("add17", 7, &[6], Data::Bytes),

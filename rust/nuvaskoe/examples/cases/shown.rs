@@ -2,6 +2,7 @@
 
 use nuvaskoe::block::{Block, Reading, Verdict};
 use nuvaskoe::figures::Figures;
+use nuvaskoe::panel::{Needle, Panel};
 use nuvaskoe::Refusal;
 
 /// The most bytes or marks, the most entries, and the most numbers of differences, that are shown.
@@ -49,6 +50,16 @@ pub fn figures(figures: Figures) -> String {
     let (burst, gap) = (figures.burst_rate, figures.gap_rate);
     let (mean, variance) = (figures.mean, figures.variance);
     format!("burst {burst} gap {gap} mean {mean} var {variance}")
+}
+
+/// Each needle by the bits of its position.
+pub fn panel(panel: &Panel) -> String {
+    let [burst, gap] = [panel.burst, panel.gap].map(|needle| match needle {
+        Needle::Lit(position) => format!("{:08x}", position.to_bits()),
+        Needle::Dark => "dark".to_string(),
+    });
+    let lamp = if panel.lamp() { "on" } else { "off" };
+    format!("burst {burst} gap {gap} lamp {lamp}")
 }
 
 /// The listing's line of block number `index`.
