@@ -32,10 +32,12 @@ pub const JSON: Opt = Opt {
     words: "one JSON object with every number, in place of words",
 };
 
-/// How many words a job takes that are no options, and what usage says of fewer.
+/// How many words a job takes that are no options, how many of them, from the first on, can be files, and what usage says
+/// of fewer.
 pub struct Takes {
     pub least: usize,
     pub most: usize,
+    pub files: usize,
     pub fewer: &'static str,
 }
 
@@ -118,7 +120,9 @@ impl Arguments {
 
     /// Whether there are as many words as the job takes, and standard input is read once.
     fn judge(&self) -> Result<(), Failure> {
-        let Takes { least, most, fewer } = self.job.takes;
+        let Takes {
+            least, most, fewer, ..
+        } = self.job.takes;
         if self.words.len() < least {
             return Err(self.usage(fewer));
         }
@@ -132,10 +136,11 @@ impl Arguments {
         }
     }
 
-    /// What can be read: the words, and the card where it is on standard input.
+    /// What can be read: files, and the card where it is on standard input.
     pub fn inputs(&self) -> impl Iterator<Item = &OsStr> {
         let words = self.words.iter().map(OsString::as_os_str);
-        words.chain(self.text(&CARD).filter(|card| *card == "-"))
+        let files = words.take(self.job.takes.files);
+        files.chain(self.text(&CARD).filter(|card| *card == "-"))
     }
 
     /// The words that are no options.

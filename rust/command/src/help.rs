@@ -29,6 +29,7 @@ The page of a job has its options, and an example that works as it is printed.
     takes: Takes {
         least: 0,
         most: 2,
+        files: 0,
         fewer: "",
     },
     example: "\
@@ -48,6 +49,7 @@ pub const VERSION: Job = Job {
     takes: Takes {
         least: 0,
         most: 0,
+        files: 0,
         fewer: "",
     },
     example: "",

@@ -28,6 +28,14 @@ pub fn all(name: &OsStr, most: usize) -> Result<Vec<u8>, Failure> {
     }
 }
 
+/// The largest packet.
+const PACKET: usize = 262_144;
+
+/// So much of a file as a packet can have, and a byte more, enough for the library to refuse it.
+pub fn packet(name: &OsStr) -> Result<Vec<u8>, Failure> {
+    front(name, open(name)?, PACKET.saturating_add(1))
+}
+
 /// The first bytes of a file, so many at most.
 pub fn front(name: &OsStr, file: impl Read, most: usize) -> Result<Vec<u8>, Failure> {
     let mut bytes = Vec::new();

@@ -25,6 +25,7 @@ pub const FORM: Opt = Opt {
 pub const ONE: Takes = Takes {
     least: 1,
     most: 1,
+    files: 1,
     fewer: "TRACE is missing",
 };
 

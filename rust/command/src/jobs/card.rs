@@ -24,6 +24,7 @@ The text - is standard input, with a card on each line.
     takes: Takes {
         least: 1,
         most: usize::MAX,
+        files: usize::MAX,
         fewer: "TEXT is missing",
     },
     example: "\
@@ -49,6 +50,7 @@ are on that card.
     takes: Takes {
         least: 0,
         most: 0,
+        files: 0,
         fewer: "",
     },
     example: "\

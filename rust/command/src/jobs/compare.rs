@@ -35,6 +35,7 @@ that cannot be read.
     takes: Takes {
         least: 2,
         most: 2,
+        files: 2,
         fewer: "two files are needed",
     },
     example: "\
@@ -48,8 +49,6 @@ status 1
     run,
 };
 
-/// The largest packet. One byte more is read, enough for the library to refuse it.
-const MOST: usize = 262_144;
 /// The status of an answer with differences.
 const DIFFERENT: u8 = 1;
 
@@ -57,7 +56,7 @@ fn run(arguments: &Arguments) -> Result<Answer<'_>, Failure> {
     let [first, second] = arguments.words() else {
         return Err(arguments.usage(COMPARE.takes.fewer));
     };
-    let (one, other) = (bytes(first)?, bytes(second)?);
+    let (one, other) = (input::packet(first)?, input::packet(second)?);
     // The library does not say whose refusal it is, but the first packet's comes first.
     let refused = |refusal| {
         let file = match packet::read(&one) {
@@ -83,11 +82,6 @@ fn run(arguments: &Arguments) -> Result<Answer<'_>, Failure> {
         status,
         ..One::default()
     }))
-}
-
-/// So much of a file as a packet can have, and a byte more.
-fn bytes(file: &OsStr) -> Result<Vec<u8>, Failure> {
-    input::front(file, input::open(file)?, MOST.saturating_add(1))
 }
 
 /// The two packets.

@@ -20,6 +20,7 @@ has reason N. A number that is both is explained as both; D4 is reason 4 alone.
     takes: Takes {
         least: 1,
         most: usize::MAX,
+        files: 0,
         fewer: "N is missing",
     },
     example: "\

@@ -24,6 +24,7 @@ too large to send. A block that reads `dropped` has a reason, which the job
     takes: Takes {
         least: 1,
         most: usize::MAX,
+        files: usize::MAX,
         fewer: "FILE is missing",
     },
     example: "\
