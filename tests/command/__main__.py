@@ -12,6 +12,7 @@ import tempfile
 sys.dont_write_bytecode = True  # a run leaves no files in the tree
 sys.path.append(str(pathlib.Path(__file__).resolve().parent.parent))
 import cards
+import dials
 import packets
 import pairs
 import traces
@@ -19,7 +20,7 @@ import usage
 from run import Run
 
 # Every function of these that is named so.
-MODULES = (traces, cards, packets, pairs, usage)
+MODULES = (traces, cards, packets, pairs, dials, usage)
 CHECKS = [check for module in MODULES for name, check in vars(module).items() if name.startswith("check_")]
 # The names of JSON that are none of the header's: what was read, lists of answers, and what has no name in C.
 OWN_NAMES = {"file", "form", "list", "cards", "explained", "lost", "discarded", "marked", "offset", "kind", "meaning", "advice",
@@ -33,7 +34,9 @@ def main():
     header = re.sub(r"/\*.*?\*/|\"[^\"]*\"", "", pathlib.Path("include/nuvaskoe.h").read_text(), flags=re.S)
     names = set(re.findall(r"\w+", header))
     assert Run.names - names == OWN_NAMES, Run.names - names ^ OWN_NAMES
-    print(f"command: {Run.count} runs of the command went as they should")
+    drawn = dials.renderer()
+    shown = f"drawings rendered by {drawn}" if drawn else "no program to render drawings"
+    print(f"command: {Run.count} runs of the command went as they should; {shown}")
 
 
 if __name__ == "__main__":

@@ -18,6 +18,7 @@ class Run:
 
     def __init__(self, *words, data=b"", **more):
         Run.count += 1
+        self.words = words
         outputs = {"stdout": subprocess.PIPE, "stderr": subprocess.PIPE, **more}
         run = subprocess.run([COMMAND, *words], input=data, timeout=60, **outputs)
         self.status, self.out, self.told = run.returncode, run.stdout, run.stderr.decode(errors="replace")
@@ -27,8 +28,15 @@ class Run:
         if self.status == 1 and words[0] == "compare":  # differences, which are no failure
             assert self.out and not self.told, self.what
         elif self.status == 1:
-            assert self.told.startswith("refused ") and "  what to do: " in self.told, self.what
+            assert self.refusal().startswith("refused ") and "  what to do: " in self.told, self.what
         assert self.status != 2 or self.told, self.what
+
+    def refusal(self):
+        """The line that says so: the first, but behind the words of an answer where standard output is a file's."""
+        lines = self.told.splitlines()
+        if self.words[-2:] == ("-o", "-"):
+            lines = [line for line in lines if line.startswith("refused ")]
+        return lines[0] if lines else ""
 
     def text(self):
         assert self.status == 0, self.what
@@ -43,7 +51,7 @@ class Run:
         return json.loads(self.out, object_pairs_hook=members)
 
     def refused(self, number, place=0):
-        assert self.status == 1 and self.told.splitlines()[0] == f"refused {number} at {place}", self.what
+        assert self.status == 1 and self.refusal() == f"refused {number} at {place}", self.what
         return self.told
 
     def wrong(self, *parts):

@@ -30,6 +30,8 @@ pub struct One {
     pub bytes: Option<(OsString, Vec<u8>)>,
     /// The exit status: 0, or 1 for the differences of two packets.
     pub status: u8,
+    /// Why there is no more to answer; its status counts.
+    pub failure: Option<Failure>,
 }
 
 /// The answer of one input of several.

@@ -67,8 +67,9 @@ job looks at the settings that it needs. A file named - is standard input.
 ";
 pub const REFUSED: &str = "\
 What cannot be answered is refused: standard error then says `refused N at P`,
-what that means and what to do, and no file is written. With --json the answer
-or the refusal is one object on standard output, by the names of nuvaskoe.h.
+what that means and what to do, and no file is written but the dark panel of the
+job `dials`. With --json the answer or the refusal is one object on standard
+output, by the names of nuvaskoe.h.
 ";
 pub const STATUS: &str = "\
 The exit status is 0 for an answer, 1 for a refusal, and 2 for wrong usage or a

@@ -2,6 +2,7 @@
 
 pub mod card;
 mod compare;
+mod dials;
 mod explain;
 mod figures;
 mod list;
@@ -37,9 +38,10 @@ pub struct Job {
 }
 
 /// All jobs, in the order of help.
-pub static JOBS: [&Job; 10] = [
+pub static JOBS: [&Job; 11] = [
     &list::LIST,
     &compare::COMPARE,
+    &dials::DIALS,
     &card::READ,
     &card::MAKE,
     &figures::FIGURES,

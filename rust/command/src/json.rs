@@ -2,9 +2,10 @@
 
 use std::fmt::{self, Write};
 
-/// A value of an answer; numbers are whole.
+/// A value of an answer; a number is whole or a position, which is written out in full.
 pub enum Value {
     Number(u64),
+    Position(f64),
     Text(String),
     List(Vec<Value>),
     Object(Object),
@@ -62,6 +63,12 @@ impl From<usize> for Value {
     }
 }
 
+impl From<f32> for Value {
+    fn from(position: f32) -> Value {
+        Value::Position(position.into())
+    }
+}
+
 impl From<&str> for Value {
     fn from(text: &str) -> Value {
         Value::Text(text.into())
@@ -84,6 +91,7 @@ impl fmt::Display for Value {
     fn fmt(&self, f: &mut fmt::Formatter<'_>) -> fmt::Result {
         match self {
             Value::Number(number) => number.fmt(f),
+            Value::Position(position) => position.fmt(f),
             Value::Text(text) => quoted(text, f),
             Value::List(values) => {
                 f.write_char('[')?;

@@ -31,7 +31,7 @@ pub fn numbers(packet: &[u8]) -> Result<Object, Refusal> {
 }
 
 /// The line of a block, behind its number.
-fn line(block: &PacketBlock<'_>) -> String {
+pub fn line(block: &PacketBlock<'_>) -> String {
     let block_type = block.reading.block_type;
     match block.reading.verdict {
         Verdict::Typed(Block::Measurement(b)) => format!(

@@ -8,6 +8,7 @@
 
 mod answer;
 mod arguments;
+mod drawing;
 mod help;
 mod input;
 mod jobs;
@@ -55,28 +56,29 @@ fn finish(answer: Result<Answer, Failure>, json: bool) -> Result<Status, Status>
     }
 }
 
-/// Bytes come first, so that nothing is said of a file that could not be written.
+/// Bytes come first, so that nothing is said of a file that could not be written; what is wrong comes last.
 fn finish_one(one: One, json: bool) -> Result<Status, Status> {
     let said = match json {
         true => format!("{}\n", one.numbers),
         false => one.words,
     };
+    let status = one.failure.as_ref().map_or(one.status, Failure::status);
     match one.bytes {
         // Standard output is the result's.
         Some((to, bytes)) if to == "-" => {
-            put(&bytes, one.status)?;
+            put(&bytes, status)?;
             tell(&said);
-            return Ok(one.status);
         }
         Some((to, bytes)) => {
             if let Err(failure) = output::write(&to, &bytes) {
-                return Ok(fail(&failure));
+                let refused = one.failure.map(|refused| fail(&refused));
+                return Ok(fail(&failure).max(refused.unwrap_or_default()));
             }
+            put(said.as_bytes(), status)?;
         }
-        None => {}
+        None => put(said.as_bytes(), status)?,
     }
-    put(said.as_bytes(), one.status)?;
-    Ok(one.status)
+    Ok(one.failure.map_or(status, |failure| fail(&failure)))
 }
 
 /// Each part as it is found, and what is wrong with it behind it. The highest status counts.

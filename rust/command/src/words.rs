@@ -1,6 +1,9 @@
 //! Numbers of answers in words.
 
-use nuvaskoe::values::{EffectiveIndex, Figure, Rate, Value};
+use nuvaskoe::{
+    panel::{Needle, Panel},
+    values::{EffectiveIndex, Figure, Rate, Value},
+};
 
 /// The longest line of a list of packets.
 const WIDTH: usize = 96;
@@ -51,6 +54,21 @@ pub fn index(index: EffectiveIndex, over: usize) -> String {
     match (index, over) {
         (EffectiveIndex(0), 1..) => "under 0.002 %".into(),
         _ => per_cent(index.fraction()),
+    }
+}
+
+/// Where a needle stands, written out in full: fifteen decimal places are always enough.
+pub fn needle(needle: Needle) -> String {
+    match needle {
+        Needle::Lit(position) => f64::from(position).to_string(),
+        Needle::Dark => "dark".into(),
+    }
+}
+
+pub fn lamp(panel: &Panel) -> &'static str {
+    match panel.lamp() {
+        true => "on",
+        false => "off",
     }
 }
 
