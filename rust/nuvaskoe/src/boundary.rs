@@ -4,9 +4,9 @@
 use std::mem::{offset_of, size_of};
 
 pub(crate) const VERSION_MAJOR: u32 = 0;
-pub(crate) const VERSION_MINOR: u32 = 3;
+pub(crate) const VERSION_MINOR: u32 = 4;
 pub(crate) const VERSION_PATCH: u32 = 0;
-pub(crate) const VERSION: u32 = 300;
+pub(crate) const VERSION: u32 = 400;
 pub(crate) const CARD_BYTES: usize = 20;
 pub(crate) const PACKET_BYTES_MAX: usize = 262144;
 pub(crate) const BLOCK_MEASUREMENT: u32 = 14;
