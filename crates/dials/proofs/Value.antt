@@ -113,25 +113,25 @@ bits (suc n) h =
 -- ---- the laws
 
 -- a rate has no more than the 24 binary digits that an f32 keeps
-rate-fits : (n : ℕ) → n ≤ 32768 → n < 2 ^ 24
-rate-fits n h = omega arith
+few-digits : (n : ℕ) → n ≤ 32768 → n < 2 ^ 24
+few-digits n h = omega arith
 
 round-is : (n : ℕ) → n ≤ 32768 → round binary32 false n 32768 ≡ position n
 unfolding position
 round-is n h =
-    let v = exact n (rate-fits n h) in
+    let v = exact n (few-digits n h) in
     sym (ofBits-toBits binary32 (round binary32 false n 32768) (round-fits binary32 false n 32768))
-    ∙ ap (ofBits binary32) (units (round binary32 false n 32768) n v ∙ bits n (rate-fits n h))
+    ∙ ap (ofBits binary32) (units (round binary32 false n 32768) n v ∙ bits n (few-digits n h))
 
 pub divided : (n : ℕ) → n ≤ 32768 → div binary32 (ofInt binary32 (pos n)) (ofBits binary32 1191182336) ≡ position n
 unfolding ofInt
 divided n h =
     ap (div binary32 (round binary32 false n 1)) full-is
-    ∙ quotient (round binary32 false n 1) n (round-whole binary32 false n (omega (arith, rate-fits n h)))
+    ∙ quotient (round binary32 false n 1) n (round-whole binary32 false n (omega (arith, few-digits n h)))
     ∙ round-is n h
 
 pub position-value : Position-value
-position-value n h = subst (λ (x : Float). HasValue x false n 32768) (round-is n h) (exact n (rate-fits n h))
+position-value n h = subst (λ (x : Float). HasValue x false n 32768) (round-is n h) (exact n (few-digits n h))
 
 pub position-bits : Position-bits
-position-bits n h = units (position n) n (position-value n h) ∙ bits n (rate-fits n h)
+position-bits n h = units (position n) n (position-value n h) ∙ bits n (few-digits n h)
