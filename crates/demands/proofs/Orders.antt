@@ -32,7 +32,7 @@ use Rattle.compare.specs.Answer.{differencesOf, compareAnswer}
 use Rattle.compose.specs.Writing.{lengthAfter, lengthMax, sizeAfter, appended, appendAnswer, ownOf, addAnswer}
 use Rattle.trace.specs.declared.Event.{Event}
 use Rattle.trace.specs.declared.Event.the-variants.{Lost, Discarded}
-use Rattle.trace.specs.Trace.{packetMax, traceMax, countedAt, lengthInRange, firstBad, judged}
+use Rattle.trace.specs.Trace.{packetMax, traceMax, countedAt, lengthInRange, firstBad, judgedWithin, judged}
 use Rattle.bursts.specs.declared.FiguresRead.{FiguresRead}
 use Rattle.bursts.specs.declared.FiguresRead.the-variants.{Accepted as Figures·Accepted, Refused as Figures·Refused}
 use Rattle.tally.specs.declared.Tally.{Tally}
@@ -198,7 +198,7 @@ locate extent s k = header extent s (λ h. ofLocated (locatedOf (framed h s) k))
 
 -- traces
 trace-rows : (s : List ℕ) → judged s ≡ judgedBy (traceRows s)
-unfolding judged
+unfolding judgedWithin
 trace-rows s =
     line (λ (j : Judged). j) (lengthInRange s) traceLength _ _ _ refl
     (at-least (λ (j : Judged). j) (length s) (firstBad s) (traceByte (firstBad s)) _ _ [] refl answered)

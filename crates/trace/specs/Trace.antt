@@ -39,18 +39,27 @@ countsAs Discarded packet = eqb packet discarded
 abbrev pub countedAt : Event → List ℕ → ℕ → Bool
 countedAt event s i = countsAs event (getD s i 0)
 
--- "trace empty or over 65,536" is not so
-unfoldable pub lengthInRange : List ℕ → Bool
-lengthInRange s = leb traceMin (length s) && leb (length s) traceMax
+-- "trace empty or over 65,536" is not so, nor over another limit
+unfoldable pub lengthWithin : ℕ → List ℕ → Bool
+lengthWithin limit s = leb traceMin (length s) && leb (length s) limit
 
--- where the first byte above 2 stands; the length, where there is none
-unfoldable pub firstBad : List ℕ → ℕ
-firstBad [] = 0
-firstBad (packet ∷ s) = cond (leb packet packetMax) (suc (firstBad s)) 0
+abbrev pub lengthInRange : List ℕ → Bool
+lengthInRange s = lengthWithin traceMax s
+
+-- where the first byte above `highest` stands; the length, where there is none
+unfoldable pub firstAbove : ℕ → List ℕ → ℕ
+firstAbove highest [] = 0
+firstAbove highest (packet ∷ s) = cond (leb packet highest) (suc (firstAbove highest s)) 0
+
+abbrev pub firstBad : List ℕ → ℕ
+firstBad s = firstAbove packetMax s
 
 -- A trace by itself: 10 and 9 of the order line "Traces: 15, 10, 9, 14, 8".
-unfoldable pub judged : List ℕ → Judged
-judged s =
-    unless (lengthInRange s) (Refused traceLength)
-    (unless (leb (length s) (firstBad s)) (Refused (traceByte (firstBad s)))
+unfoldable pub judgedWithin : ℕ → ℕ → List ℕ → Judged
+judgedWithin limit highest s =
+    unless (lengthWithin limit s) (Refused traceLength)
+    (unless (leb (length s) (firstAbove highest s)) (Refused (traceByte (firstAbove highest s)))
     Accepted)
+
+abbrev pub judged : List ℕ → Judged
+judged s = judgedWithin traceMax packetMax s

@@ -4,7 +4,7 @@ use refusal::Judged;
 ghost use mathlib.Core.Path.{_≡_};
 ghost use lib.Dec.{ltb};
 ghost use lib.ListN.{length};
-ghost use Rattle.trace.specs.Trace.{countsAs, firstBad, judged};
+ghost use Rattle.trace.specs.Trace.{countsAs, firstAbove, judgedWithin, judged};
 
 pub const LOST: u8 = 1;
 
@@ -38,38 +38,45 @@ pub fn counts(event: Event, packet: u8) -> bool
 pub fn judge(trace: &[u8]) -> Judged
     ensures { λ r. ⌜ r ≡ judged (now (trace .entry)) ⌝ }
 {
+    judge_within(trace, TRACE_MAX, PACKET_MAX)
+}
+
+// The same with another limit on its packets, and another on its bytes.
+pub fn judge_within(trace: &[u8], limit: usize, highest: u8) -> Judged
+    ensures { λ r. ⌜ r ≡ judgedWithin limit highest (now (trace .entry)) ⌝ }
+{
     if trace.len() < TRACE_MIN {
         return Judged::Refused(refusal::TRACE_LENGTH);
     }
-    if TRACE_MAX < trace.len() {
+    if limit < trace.len() {
         return Judged::Refused(refusal::TRACE_LENGTH);
     }
-    if has_bad(trace) {
-        return Judged::Refused(refusal::trace_byte(first_bad(trace)));
+    if has_bad(trace, highest) {
+        return Judged::Refused(refusal::trace_byte(first_bad(trace, highest)));
     }
     Judged::Accepted
 }
 
-// Whether a byte is above PACKET_MAX. Nothing leaves this loop early, so that it is compiled to many bytes a step.
-fn has_bad(s: &[u8]) -> bool
-    ensures { λ r. ⌜ r ≡ ltb (firstBad (now (s .entry))) (length (now (s .entry))) ⌝ }
+// Whether a byte is above the highest. Nothing leaves this loop early, so that it is compiled to many bytes a step.
+fn has_bad(s: &[u8], highest: u8) -> bool
+    ensures { λ r. ⌜ r ≡ ltb (firstAbove highest (now (s .entry))) (length (now (s .entry))) ⌝ }
 {
     let mut found = false;
     let mut i = 0;
     while i < s.len() {
-        found = found | (PACKET_MAX < s[i]);
+        found = found | (highest < s[i]);
         i += 1;
     }
     found
 }
 
-// Where the first byte above PACKET_MAX stands; the length, where there is none.
-fn first_bad(s: &[u8]) -> usize
-    ensures { λ r. ⌜ r ≡ firstBad (now (s .entry)) ⌝ }
+// Where the first byte above the highest stands; the length, where there is none.
+fn first_bad(s: &[u8], highest: u8) -> usize
+    ensures { λ r. ⌜ r ≡ firstAbove highest (now (s .entry)) ⌝ }
 {
     let mut i = 0;
     while i < s.len() {
-        if PACKET_MAX < s[i] {
+        if highest < s[i] {
             return i;
         }
         i += 1;

@@ -7,13 +7,13 @@ use Rattle.trace.proofs.has_bad.Statement.{statement}
 use Rattle.trace.proofs.has_bad.Tie as tie
 
 abbrev Inv-loop : tie.InvT-loop
-Inv-loop s found₀ i₀ found i = Asked s found i
+Inv-loop s highest found₀ i₀ found i = Asked highest s found i
 
 abbrev μ-loop : tie.MeasureT-loop
-μ-loop s found₀ i₀ found i = length s - i
+μ-loop s highest found₀ i₀ found i = length s - i
 
 loop-holds : tie.Need-loop-holds Inv-loop μ-loop
-loop-holds c = asked-none _
+loop-holds c = asked-none _ _
 
 shared-slice-read-found : tie.Need-shared-slice-read-found Inv-loop μ-loop
 shared-slice-read-found c = omega arith
@@ -25,10 +25,10 @@ loop-less : tie.Need-loop-less Inv-loop μ-loop
 loop-less c = omega arith
 
 loop-again : tie.Need-loop-again Inv-loop μ-loop
-loop-again c = asked-more _ _ _ (c .before .before .loop .inv) (omega arith)
+loop-again c = asked-more _ _ _ _ (c .before .before .loop .inv) (omega arith)
 
 returns : tie.Need-returns Inv-loop μ-loop
-returns c = asked-all _ _ _ (c .before .loop .inv) (omega arith)
+returns c = asked-all _ _ _ _ (c .before .loop .inv) (omega arith)
 
 pub has-bad-spec : {M : Type 1} → statement M
 has-bad-spec =
