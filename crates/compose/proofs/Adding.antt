@@ -152,6 +152,15 @@ placed-words s own words size f =
     both-placed s (sizeIn s) (inBytes words) (lengthAfter s (length words)) (omega arith) (omega arith)
     ∙ ap (λ (k : ℕ). grown s words ++ drop k s) end
 
+-- written by hand: the words where the packet ends, then its length field
+pub written-words : (s : List ℕ) (own : Judged) (words : List ℕ) (size : ℕ) (out out′ : List ℕ) → Fit s own (length words) size →
+    out ≡ placed s (size - 4 * length words) (inBytes words) → out′ ≡ placed out 2 (bytes16 (size / 4 - 1)) → out′ ≡ grown s words ++ drop size s
+written-words s own words size out out′ f p q =
+    let is = f .is in
+    let start : size - 4 * length words ≡ sizeIn s = omega arith in
+    let field : size / 4 - 1 ≡ lengthAfter s (length words) = omega arith in
+    q ∙ rw (p, start, field) (placed-words s own words size f)
+
 -- adding a block: the answer and the buffer
 abbrev pub Wrote : List ℕ → Block → Written → List ℕ → Type 0
 Wrote s b r out = (r ≡ addAnswer s b) × (out ≡ after (addAnswer s b) (grown s (wordsOf b)) s)
@@ -163,7 +172,4 @@ pub added : (s : List ℕ) (b : Block) (own : Judged) (count size : ℕ) (out ou
     out ≡ placed s (size - 4 * count) (bytesOf b) → out′ ≡ placed out 2 (bytes16 (size / 4 - 1)) → Wrote s b (Size size) out′
 unfolding bytesOf
 added s b own count size out out′ c f e p q =
-    let is = f .is in
-    let start : size - 4 * count ≡ sizeIn s = omega arith in
-    let field : size / 4 - 1 ≡ lengthAfter s (length (wordsOf b)) = omega arith in
-    rw e (refl, q ∙ rw (p, start, field) (placed-words s own (wordsOf b) size (rw (← c) f)))
+    rw e (refl, written-words s own (wordsOf b) size out out′ (rw (← c) f) (p ∙ ap (λ (n : ℕ). placed s (size - 4 * n) (inBytes (wordsOf b))) c) q)

@@ -38,22 +38,18 @@ no-room b made e out at h =
 -- the first i of the words are stored from `at` on
 pub record Stored (old : List ℕ) (at count : ℕ) (words out : List ℕ) (i : ℕ) : Type 0 where
   pub room : at + 4 * count ≤ length old
-  pub most : count ≤ 12
   pub held : count ≤ length words
   pub low : i ≤ count
   pub is : out ≡ placed old at (inBytes (take i words))
 
+pub stored-start : (out : List ℕ) (at count : ℕ) (words : List ℕ) → at + 4 * count ≤ length out → count ≤ length words → Stored out at count words out 0
+stored-start out at count words room held =
+    record { room = room; held = held; low = omega arith; is = sym (placed-none out at (omega arith)) }
+
 pub stored-none : (b : Block) (made : BlockWords) → made ≡ filled (wordsOf b) → (out : List ℕ) (at : ℕ) →
     at + 4 * made .count ≤ length out → Stored out at (made .count) (made .words) out 0
 stored-none b made e out at h =
-    record {
-      room = h;
-      most = few b made e;
-      held =
-          rw (e, length-append (wordsOf b) (replicate (12 - length (wordsOf b)) 0)) (omega arith);
-      low = omega arith;
-      is = sym (placed-none out at (omega arith));
-    }
+    stored-start out at (made .count) (made .words) h (rw (e, length-append (wordsOf b) (replicate (12 - length (wordsOf b)) 0)) (omega arith))
 
 -- the bytes stored so far, with the room that they take
 stored-bytes : (words : List ℕ) (i count : ℕ) → i ≤ count → count ≤ length words → length (inBytes (take i words)) ≡ 4 * i
@@ -79,7 +75,6 @@ module _ (old : List ℕ) (at count : ℕ) (words out : List ℕ) (i : ℕ) (s :
       let word = getD words i 0 in
       record {
         room = s .room;
-        most = s .most;
         held = s .held;
         low = omega arith;
         is =
@@ -88,12 +83,19 @@ module _ (old : List ℕ) (at count : ℕ) (words out : List ℕ) (i : ℕ) (s :
             ∙ ap (placed old at) (sym (rw (add-one, take-suc words i 0 (omega arith)) (in-bytes-append (take i words) (word ∷ []))));
       }
 
+pub stored-end : (old : List ℕ) (at count : ℕ) (words out : List ℕ) (i : ℕ) → Stored old at count words out i → count ≤ i →
+    out ≡ placed old at (inBytes (take count words))
+stored-end old at count words out i s h =
+    let low = s .low in
+    let end : i ≡ count = omega arith in
+    s .is ∙ ap (λ (n : ℕ). placed old at (inBytes (take n words))) end
+
 pub stored-all : (b : Block) (made : BlockWords) → made ≡ filled (wordsOf b) → (old : List ℕ) (at : ℕ) (out : List ℕ) (i : ℕ) →
     Stored old at (made .count) (made .words) out i → made .count ≤ i → out ≡ placed old at (bytesOf b)
 unfolding bytesOf
 stored-all b made e old at out i s h =
-    let low = s .low in
     let n : made .count ≡ length (wordsOf b) = ap (λ (w : BlockWords). w .count) e in
-    let all : take i (made .words) ≡ wordsOf b =
-    ap (λ (w : BlockWords). take i (w .words)) e ∙ take-at (wordsOf b) (replicate (12 - length (wordsOf b)) 0) i (omega arith) in
-    s .is ∙ ap (λ (ws : List ℕ). placed old at (inBytes ws)) all
+    let all : take (made .count) (made .words) ≡ wordsOf b =
+    ap (λ (w : BlockWords). take (made .count) (w .words)) e ∙ take-at (wordsOf b) (replicate (12 - length (wordsOf b)) 0) (made .count) (sym n)
+    in
+    stored-end old at (made .count) (made .words) out i s h ∙ ap (λ (ws : List ℕ). placed old at (inBytes ws)) all

@@ -22,7 +22,7 @@ use Rattle.packet.specs.declared.PacketHead.the-variants.{Sent}
 use Rattle.packet.specs.declared.BlockAt.the-variants.{Found, Refused}
 use Rattle.packet.specs.declared.Part.{Part}
 use Rattle.packet.specs.Blocks.{readAmong, readIn}
-use Rattle.packet.specs.Answers.{headOf, chosen, found, blockOf, partOf}
+use Rattle.packet.specs.Answers.{headOf, chosen, found, blockOf, bodyOf, partOf}
 use Rattle.packet.specs.Steps.{blocksOf, WholeBlocks}
 use Rattle.packet.specs.Laws.{PartIs, Body-is-part, Absent, Absent-exactly}
 use Rattle.packet.proofs.Measuring.{read-at}
@@ -74,6 +74,9 @@ module _ (s : List ℕ) (k sender count at : ℕ) (o : Here Extent·Whole s k se
           let l = block-bytes s at located-fits .long in
           let size : length bytes - 4 ≡ length (entryAt s at .body) = rw b (omega (arith, body-long s at located-fits)) in
           rw (located-block, size)
+
+      pub located-body : drop 4 bytes ≡ bodyOf (packetOf s) k
+      located-body = rw (located-block, b) (block-bytes s at located-fits .body)
 
   module _ (h : count ≤ k) where
     pub located-none : chosen (packetOf s) k ≡ none

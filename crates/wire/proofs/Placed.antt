@@ -58,6 +58,35 @@ placed-more s i xs ys h =
         let end : i + length (xs ++ ys) ≡ i + length xs + length ys = rw (length-append xs ys) (omega arith) in
         ap₂ (λ (a : List ℕ) (n : ℕ). a ++ drop n s) (sym (append-assoc (take i s) xs ys)) end
 
+-- bytes placed over others that are no more than they
+pub placed-over : (s : List ℕ) (i : ℕ) (xs ys : List ℕ) → length xs ≤ length ys → i + length ys ≤ length s → placed (placed s i xs) i ys ≡ placed s i ys
+placed-over s i xs ys few h =
+    placed-in (placed s i xs) i ys (rw (length-placed s i xs room) h)
+    ∙ ap₂ (λ (front back : List ℕ). front ++ ys ++ back) front back
+    ∙ sym (placed-in s i ys h)
+  where
+    room : i + length xs ≤ length s
+    room = omega arith
+
+    start : length (take i s) ≡ i
+    start = length-take-le i s (omega arith)
+
+    long : length (take i s ++ xs) ≡ i + length xs
+    long = length-append (take i s) xs ∙ ap (λ (n : ℕ). n + length xs) start
+
+    front : take i (placed s i xs) ≡ take i s
+    front =
+        ap (take i) (placed-in s i xs room ∙ append-assoc (take i s) xs (drop (i + length xs) s))
+        ∙ take-at (take i s) (xs ++ drop (i + length xs) s) i start
+
+    back : drop (i + length ys) (placed s i xs) ≡ drop (i + length ys) s
+    back =
+        let end : i + length ys ≡ length (take i s ++ xs) + (length ys - length xs) = omega (arith, long) in
+        let same : i + length xs + (length ys - length xs) ≡ i + length ys = omega arith in
+        ap₂ drop end (placed-in s i xs room)
+        ∙ drop-append-add (take i s ++ xs) (drop (i + length xs) s) (length ys - length xs)
+        ∙ drop-drop (length ys - length xs) (i + length xs) s ∙ ap (λ (n : ℕ). drop n s) same
+
 -- a byte outside them is as it was, and one of them is as it was given
 pub placed-other : (s : List ℕ) (i : ℕ) (xs : List ℕ) (j : ℕ) → i + length xs ≤ length s → (i ≤ j → i + length xs ≤ j) → getD (placed s i xs) j 0 ≡ getD s j 0
 placed-other s i xs j h apart = ap (λ (l : List ℕ). getD l j 0) (placed-in s i xs h) ∙ go (decLt j i)
@@ -101,3 +130,17 @@ stored-4 s i a b c d h =
     let two : i + 2 ≡ suc (suc i) = omega arith in
     let three : i + 3 ≡ suc (suc (suc i)) = omega arith in
     rw (one, two, three) (sets-eq (a ∷ b ∷ c ∷ d ∷ []) s i h ∙ sym (placed-in s i (a ∷ b ∷ c ∷ d ∷ []) h))
+
+pub stored-8 : (s : List ℕ) (i a b c d e f g h : ℕ) → i + 8 ≤ length s →
+    set (set (set (set (set (set (set (set s i a) (i + 1) b) (i + 2) c) (i + 3) d) (i + 4) e) (i + 5) f) (i + 6) g) (i + 7) h
+    ≡ placed s i (a ∷ b ∷ c ∷ d ∷ e ∷ f ∷ g ∷ h ∷ [])
+stored-8 s i a b c d e f g h room =
+    let bytes : List ℕ = a ∷ b ∷ c ∷ d ∷ e ∷ f ∷ g ∷ h ∷ [] in
+    let one : i + 1 ≡ suc i = omega arith in
+    let two : i + 2 ≡ suc (suc i) = omega arith in
+    let three : i + 3 ≡ suc (suc (suc i)) = omega arith in
+    let four : i + 4 ≡ suc (suc (suc (suc i))) = omega arith in
+    let five : i + 5 ≡ suc (suc (suc (suc (suc i)))) = omega arith in
+    let six : i + 6 ≡ suc (suc (suc (suc (suc (suc i))))) = omega arith in
+    let seven : i + 7 ≡ suc (suc (suc (suc (suc (suc (suc i)))))) = omega arith in
+    rw (one, two, three, four, five, six, seven) (sets-eq bytes s i room ∙ sym (placed-in s i bytes room))
