@@ -1,0 +1,4 @@
+pub mod Chunks
+pub mod Counting
+pub mod Steps
+pub mod Laws
