@@ -1,6 +1,6 @@
 -- What an answer says: why a block read by itself is dropped, `Own-reasons`, and what a block measures, `Measures-exactly`
 -- of specs/Laws.antt; and what `measured_by` finds in a block's bytes. Assumes nothing.
-use Prim.Native.Nat.{ℕ, _+_, _*_, _≤_}
+use Prim.Native.Nat.{ℕ, _+_, _*_}
 use mathlib.Core.Path.{_≡_, refl, ap}
 use mathlib.Core.Bool.{Bool, true, false}
 use mathlib.Core.List.{List}
@@ -12,24 +12,25 @@ use Rattle.wire.specs.BigEndian.{be16, be32, u32At}
 use Rattle.block.specs.declared.Block.{Block}
 use Rattle.block.specs.declared.Block.the-variants.{Measured, Loss, Discard, Effective, Streams}
 use Rattle.block.specs.declared.BlockRead.{BlockRead}
-use Rattle.block.specs.declared.BlockRead.the-variants.{Typed, Unknown, Dropped}
+use Rattle.block.specs.declared.BlockRead.the-variants.{Typed, Rle, Unknown, Dropped}
 use Rattle.block.specs.declared.Measures.the-variants.{Source, Nothing}
-use Rattle.block.specs.Types.{measurementType, measurementWords, badSize, badRate}
+use Rattle.block.specs.Types.{measurementType, measurementWords}
 use Rattle.block.specs.Layouts.{measurementIn}
 use Rattle.block.specs.Reading.{readMeasurement, readBlock, readBytes, measuresOf}
-use Rattle.block.specs.Laws.{Own-reasons, MeasuredFor, Measures-exactly}
+use Rattle.block.specs.Laws.{OwnReason, Own-reasons, MeasuredFor, Measures-exactly}
 use Rattle.block.proofs.Cells.{in-cells}
 use Rattle.block.proofs.Cases.{answers}
 
 pub own-reasons : Own-reasons
 own-reasons type specific body reason =
-    answers specific body (λ t a. a ≡ Dropped reason → (badSize ≤ reason) × (reason ≤ badRate))
+    answers specific body (λ t a. a ≡ Dropped reason → OwnReason reason)
     (λ t h. let z : _≡_ {A = ℕ} 0 1 = cc in absurd (omega arith))
-    (λ t r low high h. let e : r ≡ reason = cc in (omega arith, omega arith))
+    (λ t r own h. let e : r ≡ reason = cc in rw (← e) own)
+    (λ good h. let z : _≡_ {A = ℕ} 0 1 = cc in absurd (omega arith))
     (λ s. typed _) (λ s g. typed _) (λ s g. typed _) (λ s. typed _) (λ s. typed _)
     type
   where
-    typed : (b : Block) → Typed b ≡ Dropped reason → (badSize ≤ reason) × (reason ≤ badRate)
+    typed : (b : Block) → Typed b ≡ Dropped reason → OwnReason reason
     typed b h = let z : _≡_ {A = ℕ} 0 1 = cc in absurd (omega arith)
 
 -- no source: a type other than 14, or another size
@@ -42,7 +43,7 @@ measures-nothing bytes other = go (leb 4 (length bytes))
     go false = refl
     go true =
         answers (getD bytes 1 0) (drop 4 bytes) (λ t a. t ≡ getD bytes 0 0 → Nothing ≡ measuresOf a)
-        (λ t h. refl) (λ t r low high h. refl)
+        (λ t h. refl) (λ t r own h. refl) (λ good h. refl)
         (λ s h. absurd (other (omega (arith, length-drop 4 bytes)) (omega arith)))
         (λ s g h. refl) (λ s g h. refl) (λ s h. refl) (λ s h. refl)
         (getD bytes 0 0) refl
@@ -64,5 +65,6 @@ measures-exactly answer x = (measured answer, λ f. rw (f .typed) (ap Source (f 
     measured (Typed (Discard d)) h = none _ h
     measured (Typed (Effective e)) h = none _ h
     measured (Typed (Streams t)) h = none _ h
+    measured (Rle r) h = none _ h
     measured Unknown h = none _ h
     measured (Dropped reason) h = none _ h

@@ -1,6 +1,6 @@
 -- Reserved bits and bytes are ignored: `Reserved-ignored` of specs/Laws.antt. A block reads as it does with them cleared.
 -- Assumes nothing.
-use Prim.Native.Nat.{ℕ, _*_, _/_}
+use Prim.Native.Nat.{ℕ, _*_, _/_, _%_}
 use mathlib.Core.Path.{_≡_, refl, sym, ap₂, _∙_}
 use mathlib.Core.Bool.{Bool, true, false, cond}
 use mathlib.Core.List.{List}
@@ -11,9 +11,9 @@ use lib.Dec.{eqb}
 use lib.ListN.{length, set, length-set}
 use Rattle.wire.specs.BigEndian.{be16, be32}
 use Rattle.block.specs.declared.BlockRead.{BlockRead}
-use Rattle.block.specs.Types.{measurementType, lossType, discardType, effectiveType, streamsType, measurementWords, effectiveWords}
+use Rattle.block.specs.Types.{rleType, measurementType, lossType, discardType, effectiveType, streamsType, measurementWords, effectiveWords}
 use Rattle.block.specs.Layouts.{measurementIn, lossIn, discardIn, effectiveIn}
-use Rattle.block.specs.Reading.{sized, readMeasurement, readLoss, readDiscard, readEffective, readBlock}
+use Rattle.block.specs.Reading.{sized, readMeasurement, readLoss, readDiscard, readEffective, readRle, readBlock}
 use Rattle.block.specs.Reserved.{clearedByte, clearedBody}
 use Rattle.block.specs.Laws.{Reserved-ignored}
 use Rattle.block.proofs.Cells.{in-cells}
@@ -35,24 +35,28 @@ same-sized words s t a b long same = go (ℕ-discrete (length t) (4 * words))
     go (no e) = rw (long, ne-eqb (length t) (4 * words) e)
 
 pub read-cleared : (type specific : ℕ) (body : List ℕ) → readBlock type (clearedByte type specific) (clearedBody type body) ≡ readBlock type specific body
-unfolding readBlock readMeasurement readLoss readDiscard readEffective measurementIn lossIn discardIn effectiveIn be32 be16
+unfolding readBlock readMeasurement readLoss readDiscard readEffective readRle measurementIn lossIn discardIn effectiveIn be32 be16
 read-cleared type specific body =
-    go (ℕ-discrete type measurementType) (ℕ-discrete type lossType) (ℕ-discrete type discardType) (ℕ-discrete type effectiveType) (ℕ-discrete type streamsType)
+    go (ℕ-discrete type rleType) (ℕ-discrete type measurementType) (ℕ-discrete type lossType) (ℕ-discrete type discardType) (ℕ-discrete type effectiveType) (ℕ-discrete type streamsType)
   where
     flag : specific / 64 * 64 / 64 ≡ specific / 64
     flag = omega arith
 
-    go : Dec (type ≡ measurementType) → Dec (type ≡ lossType) → Dec (type ≡ discardType) → Dec (type ≡ effectiveType) → Dec (type ≡ streamsType) →
+    thinning : specific % 16 % 16 ≡ specific % 16
+    thinning = omega arith
+
+    go : Dec (type ≡ rleType) → Dec (type ≡ measurementType) → Dec (type ≡ lossType) → Dec (type ≡ discardType) → Dec (type ≡ effectiveType) → Dec (type ≡ streamsType) →
         readBlock type (clearedByte type specific) (clearedBody type body) ≡ readBlock type specific body
-    go (yes e) l d f s =
+    go (yes e) m l d f s = rw (e, thinning)
+    go (no r) (yes e) l d f s =
         rw e (same-sized measurementWords (clearedBody measurementType body) body _ _ (cleared-size measurementType body) (λ size. rw (in-cells (4 * measurementWords) body size)))
-    go (no m) (yes e) d f s = rw (e, flag)
-    go (no m) (no l) (yes e) f s = rw (e, flag)
-    go (no m) (no l) (no d) (yes e) s =
+    go (no r) (no m) (yes e) d f s = rw (e, flag)
+    go (no r) (no m) (no l) (yes e) f s = rw (e, flag)
+    go (no r) (no m) (no l) (no d) (yes e) s =
         rw e (same-sized effectiveWords (clearedBody effectiveType body) body _ _ (cleared-size effectiveType body) (λ size. rw (in-cells (4 * effectiveWords) body size)))
-    go (no m) (no l) (no d) (no f) (yes e) = rw e
-    go (no m) (no l) (no d) (no f) (no s) =
-        rw (ne-eqb type measurementType m, ne-eqb type lossType l, ne-eqb type discardType d, ne-eqb type effectiveType f, ne-eqb type streamsType s)
+    go (no r) (no m) (no l) (no d) (no f) (yes e) = rw e
+    go (no r) (no m) (no l) (no d) (no f) (no s) =
+        rw (ne-eqb type rleType r, ne-eqb type measurementType m, ne-eqb type lossType l, ne-eqb type discardType d, ne-eqb type effectiveType f, ne-eqb type streamsType s)
 
 pub reserved-ignored : Reserved-ignored
 reserved-ignored type specific specific′ body body′ byte rest =

@@ -1,14 +1,18 @@
 -- The fields of the five kinds by their position in the body, the words after the block's first: document
 -- 01's table; RFC 6776, section 4; RFC 7004, sections 3.1 and 3.2; documents 002 and 004. 16-bit numbers are
--- held as they stand; reserved bits are not read.
+-- held as they stand; reserved bits are not read. And of a type 1: RFC 3611, section 4.1.
 use Prim.Native.Nat.{ℕ, _+_, _-_, _/_, _%_}
 use mathlib.Core.List.{List}
+use lib.ListN.{drop}
 use Rattle.wire.specs.BigEndian.{be16, be32}
+use Rattle.chunk.specs.Chunks.{traceIn, lostIn, chunksIn}
 use Rattle.block.specs.declared.Measurement.{Measurement}
 use Rattle.block.specs.declared.LossSummary.{LossSummary}
 use Rattle.block.specs.declared.DiscardSummary.{DiscardSummary}
 use Rattle.block.specs.declared.EffectiveSummary.{EffectiveSummary}
 use Rattle.block.specs.declared.StreamCounts.{StreamCounts}
+use Rattle.block.specs.declared.LossRle.{LossRle}
+use Rattle.block.specs.Types.{rleHead}
 
 -- 14: source; 16 reserved bits and first sequence number; extended first; extended last; interval duration;
 -- cumulative seconds; cumulative fraction
@@ -67,6 +71,25 @@ streamsIn body =
       «pts_errors» = be32 body 40;
     }
 
--- "In 241 the packets covered are end minus begin modulo 65,536"
+-- "In 241 the packets covered are end minus begin modulo 65,536"; and the interval of a type 1
 abbrev pub covered : ℕ → ℕ → ℕ
 covered begin end = (end + 65536 - begin) % 65536
+
+-- the thinning of a type 1: the low four bits of the type-specific byte
+abbrev pub thinningIn : ℕ → ℕ
+thinningIn specific = specific % 16
+
+-- 1: source; begin, end; then chunks. "The interval is end minus begin modulo 65,536", and the trace its packets as the
+-- chunks describe them.
+abbrev pub intervalIn : List ℕ → ℕ
+intervalIn body = covered (be16 body 4) (be16 body 6)
+
+abbrev pub chunksOf : List ℕ → List ℕ
+chunksOf body = chunksIn (drop rleHead body)
+
+abbrev pub traceOf : List ℕ → List ℕ
+traceOf body = traceIn (intervalIn body) (chunksOf body)
+
+unfoldable pub rleIn : List ℕ → LossRle
+rleIn body =
+    record { source = be32 body 0; begin = be16 body 4; end = be16 body 6; lost = lostIn (traceOf body) }

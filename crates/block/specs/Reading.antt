@@ -1,23 +1,26 @@
 -- One block read by itself: document 01, "The packet". "Reading one block by itself takes its type,
 -- type-specific byte and body. It answers in the same three kinds, D1 for a listed type whose body has
--- another size, and never gives D4." Reasons, the first that applies: D1, D2, D3.
-use Prim.Native.Nat.{ℕ, _*_}
+-- another size, and never gives D4." Reasons, the first that applies: D1, D2, D3; of a type 1 D1,
+-- D2, D5. A good type 1 is a fourth kind of answer:
+-- document 02, ticket 5.
+use Prim.Native.Nat.{ℕ, _*_, _%_}
 use mathlib.Core.Bool.{Bool, cond, _&&_, _||_}
 use mathlib.Core.List.{List}
 use lib.Dec.{eqb, leb}
 use lib.ListN.{length, getD, drop}
 use Rattle.refusal.specs.Answer.{unless}
 use Rattle.wire.specs.BigEndian.{be16}
+use Rattle.chunk.specs.Chunks.{covers}
 use Rattle.block.specs.declared.Block.{Block}
 use Rattle.block.specs.declared.Block.the-variants.{Measured, Loss, Discard, Effective, Streams}
 use Rattle.block.specs.declared.BlockRead.{BlockRead}
-use Rattle.block.specs.declared.BlockRead.the-variants.{Typed, Unknown, Dropped}
+use Rattle.block.specs.declared.BlockRead.the-variants.{Typed, Rle, Unknown, Dropped}
 use Rattle.block.specs.declared.Needs.{Needs}
 use Rattle.block.specs.declared.Needs.the-variants.{Nothing, MeasurementOf}
 use Rattle.block.specs.declared.Measures.{Measures}
 use Rattle.block.specs.declared.Measures.the-variants.{Source, Nothing as Measures·Nothing}
-use Rattle.block.specs.Types.{measurementType, lossType, discardType, effectiveType, streamsType, measurementWords, lossWords, discardWords, effectiveWords, streamsWords, badSize, badFlag, badRate}
-use Rattle.block.specs.Layouts.{measurementIn, flagIn, lossIn, discardIn, effectiveIn, streamsIn}
+use Rattle.block.specs.Types.{rleType, measurementType, lossType, discardType, effectiveType, streamsType, measurementWords, lossWords, discardWords, effectiveWords, streamsWords, rleHead, intervalMax, badSize, badFlag, badRate, badChunks}
+use Rattle.block.specs.Layouts.{measurementIn, flagIn, lossIn, discardIn, effectiveIn, streamsIn, thinningIn, intervalIn, chunksOf, rleIn}
 
 -- "Rates are 0 to 32,768, or 65,535 for unavailable."
 abbrev pub rateMax : ℕ
@@ -66,14 +69,29 @@ readEffective body = sized effectiveWords body (Typed (Effective (effectiveIn bo
 unfoldable pub readStreams : List ℕ → BlockRead
 readStreams body = sized streamsWords body (Typed (Streams (streamsIn body)))
 
+-- type 1: whole words, the first two of them there; and an interval that its chunks cover
+abbrev pub rleSized : List ℕ → Bool
+rleSized body = leb rleHead (length body) && eqb (length body % 4) 0
+
+abbrev pub rleCovered : List ℕ → Bool
+rleCovered body = leb (intervalIn body) intervalMax && covers (intervalIn body) (chunksOf body)
+
+unfoldable pub readRle : ℕ → List ℕ → BlockRead
+readRle specific body =
+    unless (rleSized body) (Dropped badSize)
+    (unless (eqb (thinningIn specific) 0) (Dropped badFlag)
+    (unless (rleCovered body) (Dropped badChunks)
+    (Rle (rleIn body))))
+
 unfoldable pub readBlock : ℕ → ℕ → List ℕ → BlockRead
 readBlock type specific body =
-    cond (eqb type measurementType) (readMeasurement body)
+    cond (eqb type rleType) (readRle specific body)
+    (cond (eqb type measurementType) (readMeasurement body)
     (cond (eqb type lossType) (readLoss specific body)
     (cond (eqb type discardType) (readDiscard specific body)
     (cond (eqb type effectiveType) (readEffective body)
     (cond (eqb type streamsType) (readStreams body)
-    Unknown))))
+    Unknown)))))
 
 -- a block by its own bytes: type, type-specific byte, two bytes of block length, body. Fewer than four are no block.
 unfoldable pub readBytes : List ℕ → BlockRead
@@ -94,5 +112,6 @@ measuresOf (Typed (Loss l)) = Measures·Nothing
 measuresOf (Typed (Discard d)) = Measures·Nothing
 measuresOf (Typed (Effective e)) = Measures·Nothing
 measuresOf (Typed (Streams t)) = Measures·Nothing
+measuresOf (Rle r) = Measures·Nothing
 measuresOf Unknown = Measures·Nothing
 measuresOf (Dropped reason) = Measures·Nothing

@@ -1,9 +1,12 @@
-// The five typed blocks, and one block read by itself: document 01, "The packet". A reader takes the body of
-// a block, the words after its first, of any size, and answers typed, unknown, or dropped with its reason.
+// The five typed blocks, Loss RLE, and one block read by itself: document 01, "The packet". A reader takes the body of
+// a block, the words after its first, of any size, and answers typed, Loss RLE, unknown, or dropped with its reason.
+use chunk::Counted;
 use std::num::wrapping_sub_u16;
 ghost use mathlib.Core.Path.{_≡_};
 ghost use Rattle.block.specs.Layouts.{covered};
-ghost use Rattle.block.specs.Reading.{rateGood, ratesGood, flagGood, summaryGood, summaryRead, readMeasurement, readLoss, readDiscard, readEffective, readStreams, readBlock, readBytes, needsOf, measuresOf};
+ghost use Rattle.block.specs.Reading.{rateGood, ratesGood, flagGood, summaryGood, summaryRead, readMeasurement, readLoss, readDiscard, readEffective, readStreams, readRle, readBlock, readBytes, needsOf, measuresOf};
+
+pub const RLE: u8 = 1;
 
 pub const MEASUREMENT: u8 = 14;
 
@@ -37,7 +40,13 @@ pub const EFFECTIVE_BYTES: usize = 4 * EFFECTIVE_WORDS as usize;
 
 pub const STREAMS_BYTES: usize = 4 * STREAMS_WORDS as usize;
 
-// The reasons to drop a block, D1 to D4.
+// The words of a type 1 before its chunks, in bytes.
+pub const RLE_HEAD: usize = 8;
+
+// The longest interval of a type 1, in packets.
+pub const INTERVAL_MAX: u16 = 65_533;
+
+// The reasons to drop a block, D1 to D5. D2 is the interval flag of a 17 or 18, and the thinning of a type 1.
 pub const BAD_SIZE: u8 = 1;
 
 pub const BAD_FLAG: u8 = 2;
@@ -45,6 +54,8 @@ pub const BAD_FLAG: u8 = 2;
 pub const BAD_RATE: u8 = 3;
 
 pub const UNMEASURED: u8 = 4;
+
+pub const BAD_CHUNKS: u8 = 5;
 
 // The highest rate: every packet an event.
 pub const RATE_MAX: u16 = 32_768;
@@ -174,6 +185,28 @@ pub struct StreamCounts {
     pub pts_errors: u32,
 }
 
+// Type 1, Loss RLE: RFC 3611, section 4.1. T is the thinning; crate chunk has the chunks.
+//
+//  +-+-+-+-+-+-+-+-+-+-+-+-+-+-+-+-+-+-+-+-+-+-+-+-+-+-+-+-+-+-+-+-+
+//  |     BT=1      | rsvd. |   T   |         block length          |
+//  +-+-+-+-+-+-+-+-+-+-+-+-+-+-+-+-+-+-+-+-+-+-+-+-+-+-+-+-+-+-+-+-+
+//  |                        SSRC of source                         |
+//  +-+-+-+-+-+-+-+-+-+-+-+-+-+-+-+-+-+-+-+-+-+-+-+-+-+-+-+-+-+-+-+-+
+//  |          begin_seq            |             end_seq           |
+//  +-+-+-+-+-+-+-+-+-+-+-+-+-+-+-+-+-+-+-+-+-+-+-+-+-+-+-+-+-+-+-+-+
+//  |          chunk 1              |             chunk 2           |
+//  +-+-+-+-+-+-+-+-+-+-+-+-+-+-+-+-+-+-+-+-+-+-+-+-+-+-+-+-+-+-+-+-+
+//  :                              ...                              :
+//  +-+-+-+-+-+-+-+-+-+-+-+-+-+-+-+-+-+-+-+-+-+-+-+-+-+-+-+-+-+-+-+-+
+//  |          chunk n-1            |             chunk n           |
+//  +-+-+-+-+-+-+-+-+-+-+-+-+-+-+-+-+-+-+-+-+-+-+-+-+-+-+-+-+-+-+-+-+
+pub struct LossRle {
+    pub source: u32,
+    pub begin: u16, // first sequence number
+    pub end: u16, // sequence number after the last: the interval is end minus begin packets, modulo 65,536
+    pub lost: u16, // packets of the interval that are lost
+}
+
 pub enum Block {
     Measured(Measurement),
     Loss(LossSummary),
@@ -185,6 +218,7 @@ pub enum Block {
 // What reading a block answers; a dropped block has its reason.
 pub enum BlockRead {
     Typed(Block),
+    Rle(LossRle),
     Unknown,
     Dropped(u8),
 }
@@ -206,6 +240,7 @@ pub fn read(kind: u8, specific: u8, body: &[u8]) -> BlockRead
     ensures { λ r. ⌜ r ≡ readBlock kind specific (now (body .entry)) ⌝ }
 {
     match kind {
+        1 => read_rle(specific, body),
         14 => read_measurement(body),
         17 => read_loss(specific, body),
         18 => read_discard(specific, body),
@@ -308,6 +343,36 @@ fn read_streams(body: &[u8]) -> BlockRead
     }))
 }
 
+// Type 1. Its lost packets are counted chunk by chunk.
+pub fn read_rle(specific: u8, body: &[u8]) -> BlockRead
+    ensures { λ r. ⌜ r ≡ readRle specific (now (body .entry)) ⌝ }
+{
+    if body.len() < RLE_HEAD {
+        return BlockRead::Dropped(BAD_SIZE);
+    }
+    if body.len() % 4 != 0 {
+        return BlockRead::Dropped(BAD_SIZE);
+    }
+    if specific % 16 != 0 {
+        return BlockRead::Dropped(BAD_FLAG);
+    }
+    let begin = wire::u16_at(body, 4);
+    let end = wire::u16_at(body, 6);
+    let interval = packets_covered(begin, end);
+    if INTERVAL_MAX < interval {
+        return BlockRead::Dropped(BAD_CHUNKS);
+    }
+    match chunk::count(&body[RLE_HEAD..], interval as usize) {
+        Counted::Lost(lost) => BlockRead::Rle(LossRle {
+            source: wire::u32_at(body, 0),
+            begin,
+            end,
+            lost: lost as u16,
+        }),
+        Counted::Uncovered => BlockRead::Dropped(BAD_CHUNKS),
+    }
+}
+
 // A 17 or 18 of its size, with this interval flag and these rates: dropped for D2 or D3, or typed.
 fn judge_summary(flag: u8, burst_rate: u16, gap_rate: u16, b: Block) -> BlockRead
     ensures { λ r. ⌜ r ≡ summaryRead flag «burst_rate» «gap_rate» b ⌝ }
@@ -372,7 +437,7 @@ pub fn measured_by(bytes: &[u8]) -> Measures
     Measures::Source(wire::u32_at(bytes, 4))
 }
 
-// The packets that a block 241 covers, over the wrap of 16-bit sequence numbers.
+// The packets that a block 1 or 241 covers, over the wrap of 16-bit sequence numbers.
 pub fn packets_covered(begin: u16, end: u16) -> u16
     ensures { λ n. ⌜ n ≡ covered begin end ⌝ }
 {

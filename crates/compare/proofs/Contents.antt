@@ -13,7 +13,7 @@ use Rattle.block.specs.Fields.{fieldsOf}
 use Rattle.block.specs.Layouts.{measurementIn, lossIn, discardIn, effectiveIn, streamsIn}
 use Rattle.block.specs.declared.Block.{Block}
 use Rattle.block.specs.declared.BlockRead.{BlockRead}
-use Rattle.block.specs.declared.BlockRead.the-variants.{Typed, Unknown, Dropped}
+use Rattle.block.specs.declared.BlockRead.the-variants.{Typed, Rle, Unknown, Dropped}
 use Rattle.block.proofs.Cases.{typed-answers}
 use Rattle.frame.specs.Frames.{Entry}
 use Rattle.frame.specs.Packet.{none, one, numbered}
@@ -75,5 +75,6 @@ all-sized all (e ∷ es) = (go (readIn all e) refl, all-sized all es)
   where
     go : (r : BlockRead) → readIn all e ≡ r → Sized fieldCount (contentOf e r)
     go (Typed b) h = field-count e b (typed-alone all e b h)
+    go (Rle r) h = refl
     go Unknown h = refl
     go (Dropped reason) h = refl

@@ -7,9 +7,10 @@ use mathlib.Core.List.{List, [], _∷_, _++_, map, map-append}
 use native.Mathlib.Omega.{arith}
 use lib.ListN.{length, getD}
 use Rattle.block.specs.Fields.{fieldsOf}
+use Rattle.block.specs.declared.LossRle.{LossRle}
 use Rattle.block.specs.declared.Block.{Block}
 use Rattle.block.specs.declared.BlockRead.{BlockRead}
-use Rattle.block.specs.declared.BlockRead.the-variants.{Typed, Unknown, Dropped}
+use Rattle.block.specs.declared.BlockRead.the-variants.{Typed, Rle, Unknown, Dropped}
 use Rattle.frame.specs.Frames.{Entry}
 use Rattle.frame.specs.Packet.{Packet, good, bad, one, numbered}
 use Rattle.packet.specs.Blocks.{readIn}
@@ -35,28 +36,37 @@ alike xs ys x y = go (readIn xs x) (readIn ys y) refl refl
     inner : (us vs : List ℕ) → bytes us ≡ bytes vs → us ≡ vs
     inner us vs h = cc
 
+    not-rle : (t : LossRle) (b : Block) → Rle t ≡ Typed b → ⊥
+    not-rle t b e = let z : _≡_ {A = ℕ} 0 1 = cc in omega arith
+
     not-unknown : (b : Block) → Unknown ≡ Typed b → ⊥
     not-unknown b e = let z : _≡_ {A = ℕ} 0 1 = cc in omega arith
 
     not-dropped : (reason : ℕ) (b : Block) → Dropped reason ≡ Typed b → ⊥
     not-dropped reason b e = let z : _≡_ {A = ℕ} 0 1 = cc in omega arith
 
+    from-bytes : (r s : BlockRead) → readIn xs x ≡ r → readIn ys y ≡ s → ((b : Block) → r ≡ Typed b → ⊥) →
+        bytes (x .kind ∷ x .specific ∷ x .body) ≡ contentOf y s → Alike xs ys x y
+    from-bytes r (Typed c) p q m h = let z : _≡_ {A = ℕ} 0 1 = cc in absurd (omega arith)
+    from-bytes r (Rle t) p q m h = same-bytes r (Rle t) p q m (not-rle t) (inner _ _ h)
+    from-bytes r Unknown p q m h = same-bytes r Unknown p q m not-unknown (inner _ _ h)
+    from-bytes r (Dropped t) p q m h = same-bytes r (Dropped t) p q m (not-dropped t) (inner _ _ h)
+
     go : (r s : BlockRead) → readIn xs x ≡ r → readIn ys y ≡ s → contentOf x r ≡ contentOf y s → Alike xs ys x y
     go (Typed b) (Typed c) p q h = inl (record { first = b; second = c; reads-first = p; reads-second = q; type = cc; fields-same = cc })
+    go (Typed b) (Rle t) p q h = let z : _≡_ {A = ℕ} 0 1 = cc in absurd (omega arith)
     go (Typed b) Unknown p q h = let z : _≡_ {A = ℕ} 0 1 = cc in absurd (omega arith)
     go (Typed b) (Dropped t) p q h = let z : _≡_ {A = ℕ} 0 1 = cc in absurd (omega arith)
-    go Unknown (Typed c) p q h = let z : _≡_ {A = ℕ} 0 1 = cc in absurd (omega arith)
-    go Unknown Unknown p q h = same-bytes Unknown Unknown p q not-unknown not-unknown (inner _ _ h)
-    go Unknown (Dropped t) p q h = same-bytes Unknown (Dropped t) p q not-unknown (not-dropped t) (inner _ _ h)
-    go (Dropped r) (Typed c) p q h = let z : _≡_ {A = ℕ} 0 1 = cc in absurd (omega arith)
-    go (Dropped r) Unknown p q h = same-bytes (Dropped r) Unknown p q (not-dropped r) not-unknown (inner _ _ h)
-    go (Dropped r) (Dropped t) p q h = same-bytes (Dropped r) (Dropped t) p q (not-dropped r) (not-dropped t) (inner _ _ h)
+    go (Rle r) s p q h = from-bytes (Rle r) s p q (not-rle r) h
+    go Unknown s p q h = from-bytes Unknown s p q not-unknown h
+    go (Dropped r) s p q h = from-bytes (Dropped r) s p q (not-dropped r) h
 
 untyped-bytes : (xs : List Entry) (x : Entry) → ((b : Block) → readIn xs x ≡ Typed b → ⊥) → contentOf x (readIn xs x) ≡ bytes (x .kind ∷ x .specific ∷ x .body)
 untyped-bytes xs x n = go (readIn xs x) refl
   where
     go : (r : BlockRead) → readIn xs x ≡ r → contentOf x r ≡ bytes (x .kind ∷ x .specific ∷ x .body)
     go (Typed b) h = absurd (n b h)
+    go (Rle r) h = refl
     go Unknown h = refl
     go (Dropped reason) h = refl
 
@@ -136,6 +146,7 @@ reserved-nothing a xs ys r =
 
         go : (s : BlockRead) → readIn xs x ≡ s → Alike xs ys x y
         go (Typed b) h = inl (record { first = b; second = b; reads-first = h; reads-second = sym read ∙ h; type = type; fields-same = refl })
+        go (Rle t) h = other (Rle t) h (λ b e. let z : _≡_ {A = ℕ} 0 1 = cc in omega arith)
         go Unknown h = other Unknown h (λ b e. let z : _≡_ {A = ℕ} 0 1 = cc in omega arith)
         go (Dropped reason) h = other (Dropped reason) h (λ b e. let z : _≡_ {A = ℕ} 0 1 = cc in omega arith)
 

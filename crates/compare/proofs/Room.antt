@@ -11,7 +11,7 @@ use lib.ListN.{length, length-append}
 use Rattle.block.specs.Fields.{fieldsOf}
 use Rattle.block.specs.declared.Block.{Block}
 use Rattle.block.specs.declared.BlockRead.{BlockRead}
-use Rattle.block.specs.declared.BlockRead.the-variants.{Typed, Unknown, Dropped}
+use Rattle.block.specs.declared.BlockRead.the-variants.{Typed, Rle, Unknown, Dropped}
 use Rattle.block.proofs.Cases.{typed-answers}
 use Rattle.frame.specs.Frames.{Entry, nextAt, bodyLength, entryAt, firstBlock}
 use Rattle.frame.specs.Packet.{Packet, good, bad, packetOf}
@@ -68,6 +68,7 @@ holds all e = go (readIn all e) refl
   where
     go : (r : BlockRead) → readIn all e ≡ r → Holds (sizeIn e) (contentOf e r)
     go (Typed b) h = typed-few e b (typed-alone all e b h)
+    go (Rle r) h = refl
     go Unknown h = refl
     go (Dropped reason) h = refl
 

@@ -15,7 +15,7 @@ use Rattle.wire.specs.BigEndian.{be16, u16At, u32At}
 use Rattle.wire.proofs.Numbers.{u16-inside, u32-inside}
 use Rattle.block.specs.Reading.{readBytes}
 use Rattle.block.specs.declared.BlockRead.{BlockRead}
-use Rattle.block.specs.declared.BlockRead.the-variants.{Typed, Unknown, Dropped}
+use Rattle.block.specs.declared.BlockRead.the-variants.{Typed, Rle, Unknown, Dropped}
 use Rattle.frame.specs.Frames.{Entry, whole, bodyLength, nextAt, entryAt, blockAt, framesIn, firstBlock}
 use Rattle.frame.specs.Packet.{good, packetOf}
 use Rattle.frame.proofs.Stepping.{first-of, at-end}
@@ -70,6 +70,7 @@ module _ (s : List ℕ) (at : ℕ) (fits : nextAt s at ≤ length s) where
       go : (r : BlockRead) → readIn es (entryAt s at) ≡ r → contentBy (isTyped r) (blockAt s at) ≡ contentOf (entryAt s at) r
       go (Typed b) h =
           ap₂ typed (block-bytes s at fits .kind) (fields-are (blockAt s at) b (read-at s at fits ∙ typed-alone es (entryAt s at) b h))
+      go (Rle c) h = let b = block-bytes s at fits in ap bytes (rw (b .kind, b .specific, b .body))
       go Unknown h = let b = block-bytes s at fits in ap bytes (rw (b .kind, b .specific, b .body))
       go (Dropped reason) h = let b = block-bytes s at fits in ap bytes (rw (b .kind, b .specific, b .body))
 

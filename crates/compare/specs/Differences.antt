@@ -6,20 +6,22 @@ use mathlib.Core.List.{List, [], _∷_, _++_}
 use lib.Dec.{eqb}
 use Rattle.block.specs.Fields.{fieldsOf}
 use Rattle.block.specs.declared.BlockRead.{BlockRead}
-use Rattle.block.specs.declared.BlockRead.the-variants.{Typed, Unknown, Dropped}
+use Rattle.block.specs.declared.BlockRead.the-variants.{Typed, Rle, Unknown, Dropped}
 use Rattle.frame.specs.Frames.{Entry}
 use Rattle.packet.specs.Blocks.{readIn}
 use Rattle.difference.specs.declared.Difference.{Difference}
 use Rattle.difference.specs.Differences.{senders, wholeBlock, onlyFirst, onlySecond, where-unequal, fieldsFrom}
 
 -- What is compared of a block: of a typed one its type and its fields in layout order, "the flag first, reserved bits left
--- out"; of any other its bytes, "header included": type, type-specific byte and body, of which the block length is the size.
+-- out"; of any other its bytes, "header included": type, type-specific byte and body, of which the block length is the size. Ticket 5:
+-- "Ticket 1 compares type 1 by bytes".
 pub data Content : Type 0 where
   typed : ℕ → List ℕ → Content
   bytes : List ℕ → Content
 
 abbrev pub contentOf : Entry → BlockRead → Content
 contentOf e (Typed b) = typed (e .kind) (fieldsOf b)
+contentOf e (Rle r) = bytes (e .kind ∷ e .specific ∷ e .body)
 contentOf e Unknown = bytes (e .kind ∷ e .specific ∷ e .body)
 contentOf e (Dropped reason) = bytes (e .kind ∷ e .specific ∷ e .body)
 

@@ -9,7 +9,7 @@ use Rattle.block.specs.Types.{unmeasured}
 use Rattle.block.specs.Reading.{needsOf}
 use Rattle.block.specs.declared.Block.{Block}
 use Rattle.block.specs.declared.BlockRead.{BlockRead}
-use Rattle.block.specs.declared.BlockRead.the-variants.{Typed, Unknown, Dropped}
+use Rattle.block.specs.declared.BlockRead.the-variants.{Typed, Rle, Unknown, Dropped}
 use Rattle.block.specs.declared.Needs.{Needs}
 use Rattle.block.specs.declared.Needs.the-variants.{Nothing, MeasurementOf}
 use Rattle.frame.specs.Frames.{Entry}
@@ -45,6 +45,7 @@ record Freed (es : List Entry) (e : Entry) (own : BlockRead) : Type 0 where
   is : readAmong (es ++ e ∷ []) own ≡ Typed block
 
 kept : (es : List Entry) (e : Entry) (own : BlockRead) → (readAmong (es ++ e ∷ []) own ≡ readAmong es own) ⊎ Freed es e own
+kept es e (Rle r) = inl refl
 kept es e Unknown = inl refl
 kept es e (Dropped reason) = inl refl
 kept es e (Typed b) = go (needsOf b) refl

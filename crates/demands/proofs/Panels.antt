@@ -87,6 +87,7 @@ in-packet : (s : List ℕ) (k type : ℕ) → InPacket s k type
 in-packet s k type =
     record {
       typed = λ b h. ap panelAt h ∙ typed-at (packetOf s) k type b h;
+      rle = λ r h. ap panelAt h;
       unknown = λ h. ap panelAt h;
       dropped = λ reason h. ap panelAt h;
       refused = λ r h. ap panelAt h;

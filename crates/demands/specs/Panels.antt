@@ -5,8 +5,9 @@ use mathlib.Core.List.{List}
 use Rattle.refusal.specs.Answer.{unless}
 use Rattle.refusal.specs.declared.Refusal.{Refusal}
 use Rattle.block.specs.Reading.{rateMax, unavailable}
+use Rattle.block.specs.declared.LossRle.{LossRle}
 use Rattle.block.specs.declared.Block.{Block}
-use Rattle.block.specs.declared.BlockRead.the-variants.{Typed, Unknown, Dropped}
+use Rattle.block.specs.declared.BlockRead.the-variants.{Typed, Rle, Unknown, Dropped}
 use Rattle.encode.specs.Words.{writable}
 use Rattle.frame.specs.Packet.{packetOf}
 use Rattle.packet.specs.declared.BlockAt.the-variants.{Found, Refused}
@@ -30,6 +31,7 @@ pub record PositionsExact : Type 0 where
 -- block k of the packet s
 pub record InPacket (s : List ℕ) (k type : ℕ) : Type 0 where
   pub typed : (b : Block) → blockOf (packetOf s) k ≡ Found type (Typed b) → panelAt (blockOf (packetOf s) k) ≡ needles b
+  pub rle : (r : LossRle) → blockOf (packetOf s) k ≡ Found type (Rle r) → panelAt (blockOf (packetOf s) k) ≡ dark
   pub unknown : blockOf (packetOf s) k ≡ Found type Unknown → panelAt (blockOf (packetOf s) k) ≡ dark
   pub dropped : (reason : ℕ) → blockOf (packetOf s) k ≡ Found type (Dropped reason) → panelAt (blockOf (packetOf s) k) ≡ dark
   pub refused : (r : Refusal) → blockOf (packetOf s) k ≡ Refused r → panelAt (blockOf (packetOf s) k) ≡ dark

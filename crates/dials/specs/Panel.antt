@@ -8,7 +8,7 @@ use Rattle.block.specs.Reading.{rateMax, summaryGood}
 use Rattle.block.specs.declared.Block.{Block}
 use Rattle.block.specs.declared.Block.the-variants.{Measured, Loss, Discard, Effective, Streams}
 use Rattle.block.specs.declared.BlockRead.{BlockRead}
-use Rattle.block.specs.declared.BlockRead.the-variants.{Typed, Unknown, Dropped}
+use Rattle.block.specs.declared.BlockRead.the-variants.{Typed, Rle, Unknown, Dropped}
 use Rattle.packet.specs.declared.BlockAt.{BlockAt}
 use Rattle.packet.specs.declared.BlockAt.the-variants.{Found, Refused}
 use Rattle.dials.specs.declared.Needle.{Needle}
@@ -41,6 +41,7 @@ panelOf (Streams t) = dark
 -- of what was read
 abbrev pub panelRead : BlockRead → Panel
 panelRead (Typed b) = panelOf b
+panelRead (Rle r) = dark
 panelRead Unknown = dark
 panelRead (Dropped reason) = dark
 

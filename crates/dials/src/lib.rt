@@ -44,6 +44,7 @@ pub fn of_read(read: BlockRead) -> Panel
 {
     match read {
         BlockRead::Typed(b) => of_block(b),
+        BlockRead::Rle(_) => DARK,
         BlockRead::Unknown => DARK,
         BlockRead::Dropped(_) => DARK,
     }

@@ -1,13 +1,14 @@
 -- What the boundary's struct holds for each answer about one block: its verdict as crate verdict numbers it, and its fields.
 use Prim.Native.Nat.{ℕ}
-use mathlib.Core.List.{List, _∷_, _++_}
+use mathlib.Core.List.{List, [], _∷_, _++_}
 use lib.ListN.{replicate, take, drop}
 use Rattle.block.specs.Fields.{fieldsOf}
 use Rattle.block.specs.Layouts.{covered}
+use Rattle.block.specs.declared.LossRle.{LossRle}
 use Rattle.block.specs.declared.Block.{Block}
 use Rattle.block.specs.declared.Block.the-variants.{Measured, Loss, Discard, Effective, Streams}
 use Rattle.block.specs.declared.BlockRead.{BlockRead}
-use Rattle.block.specs.declared.BlockRead.the-variants.{Typed, Unknown, Dropped}
+use Rattle.block.specs.declared.BlockRead.the-variants.{Typed, Rle, Unknown, Dropped}
 use Rattle.verdict.specs.Verdict.{verdictOf}
 use Rattle.ffi_answer.specs.Answers.{none}
 use Rattle.ffi_block.specs.declared.BlockFields.{BlockFields}
@@ -28,8 +29,13 @@ shownOf (Streams t) = take 3 (fieldsOf (Streams t)) ++ covered (t .begin) (t .en
 abbrev pub fieldsOut : Block → List ℕ
 fieldsOut b = take 13 (shownOf b ++ noFields)
 
+-- a good type 1, with the packets covered after its end as well
+abbrev pub rleOut : LossRle → List ℕ
+rleOut r = take 13 ((r .source ∷ r .begin ∷ r .end ∷ covered (r .begin) (r .end) ∷ r .lost ∷ []) ++ noFields)
+
 abbrev pub readFields : BlockRead → List ℕ
 readFields (Typed b) = fieldsOut b
+readFields (Rle r) = rleOut r
 readFields Unknown = noFields
 readFields (Dropped reason) = noFields
 

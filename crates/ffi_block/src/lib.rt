@@ -1,6 +1,7 @@
 // One block at the boundary to C: what reading it came to, its fields as thirteen numbers with an order by type.
 use block::Block;
 use block::BlockRead;
+use block::LossRle;
 use block::Measurement;
 use block::StreamCounts;
 use ffi_answer::NONE;
@@ -8,9 +9,9 @@ use refusal::Refusal;
 ghost use mathlib.Core.Path.{_≡_};
 ghost use Rattle.block.specs.Reading.{readBlock};
 ghost use Rattle.block.specs.declared.Block.the-variants.{Measured, Streams};
-ghost use Rattle.ffi_block.specs.Answers.{fieldsOut, readOut};
+ghost use Rattle.ffi_block.specs.Answers.{fieldsOut, rleOut, readOut};
 
-// How many numbers the fields of any typed block take.
+// How many numbers the fields of any block take.
 pub const FIELDS: usize = 13;
 
 // One block.
@@ -20,7 +21,7 @@ pub struct BlockFields {
     pub refusal: Refusal,
     pub block_type: u32, // 0 where refused
     pub verdict: u32, // NUVASKOE_VERDICT_UNKNOWN where refused
-    pub fields: [u32; FIELDS], // where typed, by the names of its type's places; all others 0
+    pub fields: [u32; FIELDS], // where typed, or Loss RLE, by the names of its type's places; all others 0
 }
 
 pub const NO_FIELDS: [u32; FIELDS] = [0; FIELDS];
@@ -106,6 +107,28 @@ fn fields_of(b: Block) -> [u32; FIELDS]
     }
 }
 
+// The fields of a good type 1, in the header's order.
+fn rle_fields(r: LossRle) -> [u32; FIELDS]
+    ensures { λ f. ⌜ f ≡ rleOut r ⌝ }
+{
+    let packets = block::packets_covered(r.begin, r.end);
+    [
+        r.source,
+        r.begin as u32,
+        r.end as u32,
+        packets as u32,
+        r.lost as u32,
+        0,
+        0,
+        0,
+        0,
+        0,
+        0,
+        0,
+        0,
+    ]
+}
+
 pub fn read_out(kind: u8, r: BlockRead) -> BlockFields
     ensures { λ f. ⌜ f ≡ readOut kind r ⌝ }
 {
@@ -116,6 +139,15 @@ pub fn read_out(kind: u8, r: BlockRead) -> BlockFields
                 refusal: NONE,
                 block_type: kind as u32,
                 verdict: verdict::TYPED as u32,
+                fields,
+            }
+        }
+        BlockRead::Rle(l) => {
+            let fields = rle_fields(l);
+            BlockFields {
+                refusal: NONE,
+                block_type: kind as u32,
+                verdict: verdict::RLE as u32,
                 fields,
             }
         }

@@ -47,7 +47,8 @@ pub panel-of-read : Panel-of-read
 panel-of-read type specific body =
     answers specific body (λ t a. panelIn (readOut t a) ≡ panelRead a)
     (λ t. no-summary (readOut t Unknown) refl)
-    (λ t reason low high. dropped t reason low)
+    (λ t reason own. dropped t reason (own .0))
+    (λ g. no-summary _ refl)
     (λ s. no-summary _ refl)
     (λ s g. summary _ refl)
     (λ s g. summary _ refl)

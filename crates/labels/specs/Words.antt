@@ -165,6 +165,12 @@ streams = sp ∷ s ∷ t ∷ r ∷ e ∷ a ∷ m ∷ s ∷ sp ∷ []
 abbrev pub counts : List ℕ
 counts = sp ∷ c ∷ o ∷ u ∷ n ∷ t ∷ s ∷ []
 
+abbrev pub rleSource : List ℕ
+rleSource = sp ∷ r ∷ l ∷ e ∷ sp ∷ s ∷ o ∷ u ∷ r ∷ c ∷ e ∷ sp ∷ []
+
+abbrev pub lost : List ℕ
+lost = sp ∷ l ∷ o ∷ s ∷ t ∷ sp ∷ []
+
 abbrev pub space : List ℕ
 space = sp ∷ []
 

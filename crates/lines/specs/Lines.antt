@@ -3,8 +3,9 @@
 use Prim.Native.Nat.{ℕ}
 use mathlib.Core.List.{List, _++_}
 use Rattle.refusal.specs.declared.Refusal.{Refusal}
+use Rattle.block.specs.declared.LossRle.{LossRle}
 use Rattle.block.specs.declared.BlockRead.{BlockRead}
-use Rattle.block.specs.declared.BlockRead.the-variants.{Typed, Unknown, Dropped}
+use Rattle.block.specs.declared.BlockRead.the-variants.{Typed, Rle, Unknown, Dropped}
 use Rattle.text.specs.Text.{decimalOf}
 use Rattle.labels.specs.Words as words
 use Rattle.labels.specs.Labels.{number, source}
@@ -14,10 +15,15 @@ use Rattle.fields.specs.Fields.{typedText}
 abbrev pub lineRoom : ℕ
 lineRoom = 512
 
--- the line of block k, of this type and body size, by what reading it gave: typed, `k unknown type T bytes n`,
+-- `k rle source S begin b end e lost n`, after the k: document 02, ticket 5
+unfoldable pub rleText : LossRle → List ℕ
+rleText r = source words.rleSource (r .source) ++ number words.begin (r .begin) ++ number words.end (r .end) ++ number words.lost (r .lost)
+
+-- the line of block k, of this type and body size, by what reading it gave: typed, a good type 1, `k unknown type T bytes n`,
 -- or `k dropped type T reason D`
 abbrev pub blockLine : ℕ → ℕ → ℕ → BlockRead → List ℕ
 blockLine k kind size (Typed b) = decimalOf k ++ typedText b ++ words.newline
+blockLine k kind size (Rle r) = decimalOf k ++ rleText r ++ words.newline
 blockLine k kind size Unknown = decimalOf k ++ number words.unknownType kind ++ number words.bytes size ++ words.newline
 blockLine k kind size (Dropped d) = decimalOf k ++ number words.droppedType kind ++ number words.reason d ++ words.newline
 

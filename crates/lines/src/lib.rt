@@ -2,12 +2,13 @@
 // position at on, its newline too, and answers where it ends. A line is never
 // longer than LINE bytes.
 use block::BlockRead;
+use block::LossRle;
 use labels::put_number;
 use labels::put_source;
 use refusal::Refusal;
 ghost use mathlib.Core.Path.{_≡_};
 ghost use Rattle.text.specs.Page.{putAt, endAt};
-ghost use Rattle.lines.specs.Lines.{blockLine, headLine, refusalLine};
+ghost use Rattle.lines.specs.Lines.{rleText, blockLine, headLine, refusalLine};
 
 // Room that is enough for any line.
 pub const LINE: usize = 512;
@@ -50,6 +51,10 @@ pub fn put_block(
             let b = fields::put_typed(page, a, block);
             text::put(page, b, b"\n")
         }
+        BlockRead::Rle(r) => {
+            let b = put_rle(page, a, r);
+            text::put(page, b, b"\n")
+        }
         BlockRead::Unknown => {
             let b = put_number(page, a, b" unknown type ", kind as u64);
             let c = put_number(page, b, b" bytes ", size as u64);
@@ -61,4 +66,15 @@ pub fn put_block(
             text::put(page, c, b"\n")
         }
     }
+}
+
+// A good type 1 after its number.
+fn put_rle(page: &mut [u8], at: usize, r: LossRle) -> usize
+    ensures answer { λ e. ⌜ e ≡ endAt (now (page .entry)) at (rleText r) ⌝ }
+    ensures buffer { λ e. ⌜ now (page .exit) ≡ putAt (now (page .entry)) at (rleText r) ⌝ }
+{
+    let a = put_source(page, at, b" rle source ", r.source);
+    let b = put_number(page, a, b" begin ", r.begin as u64);
+    let c = put_number(page, b, b" end ", r.end as u64);
+    put_number(page, c, b" lost ", r.lost as u64)
 }

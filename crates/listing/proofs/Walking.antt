@@ -14,7 +14,7 @@ use Rattle.refusal.specs.declared.Written.the-variants.{Size}
 use Rattle.block.specs.Types.{unmeasured}
 use Rattle.block.specs.Reading.{readBytes}
 use Rattle.block.specs.declared.BlockRead.{BlockRead}
-use Rattle.block.specs.declared.BlockRead.the-variants.{Typed, Unknown, Dropped}
+use Rattle.block.specs.declared.BlockRead.the-variants.{Typed, Rle, Unknown, Dropped}
 use Rattle.frame.specs.Frames.{Entry, whole, bodyLength, nextAt, entryAt, blockAt, framesIn, firstBlock}
 use Rattle.frame.specs.Packet.{Packet, good, bad, packetOf}
 use Rattle.frame.proofs.Stepping.{first-of}
@@ -87,6 +87,7 @@ judged-own own v h = rw (ne-eqb v unmeasured h)
 -- by the survey's verdict a block that was read by itself is what it is among the blocks of its packet
 verdict-4 : (b : BlockRead) → verdictOf b ≡ unmeasured → b ≡ Dropped unmeasured
 verdict-4 (Typed b) h = absurd (omega arith)
+verdict-4 (Rle r) h = absurd (omega arith)
 verdict-4 Unknown h = absurd (omega arith)
 verdict-4 (Dropped reason) h = ap Dropped h
 

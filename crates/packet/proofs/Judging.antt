@@ -12,7 +12,7 @@ use Rattle.block.specs.Reading.{needsOf}
 use Rattle.block.proofs.Reasons.{own-reasons}
 use Rattle.block.specs.declared.Block.{Block}
 use Rattle.block.specs.declared.BlockRead.{BlockRead}
-use Rattle.block.specs.declared.BlockRead.the-variants.{Typed, Unknown, Dropped}
+use Rattle.block.specs.declared.BlockRead.the-variants.{Typed, Rle, Unknown, Dropped}
 use Rattle.block.specs.declared.Needs.{Needs}
 use Rattle.block.specs.declared.Needs.the-variants.{Nothing, MeasurementOf}
 use Rattle.frame.specs.Frames.{Entry}
@@ -32,6 +32,7 @@ module _ (es : List Entry) (own : BlockRead) where
 
 -- In a packet a block reads as by itself, but for D4.
 by-needs : (es : List Entry) (own : BlockRead) → (readAmong es own ≡ own) ⊎ (readAmong es own ≡ Dropped unmeasured)
+by-needs es (Rle r) = inl refl
 by-needs es Unknown = inl refl
 by-needs es (Dropped reason) = inl refl
 by-needs es (Typed b) = go (needsOf b)
@@ -64,8 +65,9 @@ unmeasured-only es e dropped = go (readAlone e) refl dropped
 
     go : (own : BlockRead) → readAlone e ≡ own → readAmong es own ≡ Dropped unmeasured → Unmeasured es e
     go (Typed b) t h = by-need b (needsOf b) t refl h
+    go (Rle r) t h = let z : _≡_ {A = ℕ} 0 1 = cc in absurd (omega arith)
     go Unknown t h = let z : _≡_ {A = ℕ} 0 1 = cc in absurd (omega arith)
-    go (Dropped reason) t h = absurd (omega (arith, own-reasons (e .kind) (e .specific) (e .body) unmeasured (t ∙ h) .1))
+    go (Dropped reason) t h = absurd (own-reasons (e .kind) (e .specific) (e .body) unmeasured (t ∙ h) .2 refl)
 
 pub unmeasured-exactly : Unmeasured-exactly
 unmeasured-exactly es e =

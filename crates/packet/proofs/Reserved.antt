@@ -8,7 +8,7 @@ use lib.ListN.{length, getD}
 use Rattle.wire.specs.BigEndian.{be16, be32}
 use Rattle.block.specs.Reading.{needsOf}
 use Rattle.block.specs.declared.BlockRead.{BlockRead}
-use Rattle.block.specs.declared.BlockRead.the-variants.{Typed, Unknown, Dropped}
+use Rattle.block.specs.declared.BlockRead.the-variants.{Typed, Rle, Unknown, Dropped}
 use Rattle.block.specs.declared.Needs.{Needs}
 use Rattle.block.specs.declared.Needs.the-variants.{Nothing, MeasurementOf}
 use Rattle.block.proofs.Reserved.{read-cleared, cleared-size}
@@ -42,6 +42,7 @@ clear-read es e = rw (clear-alone e) (go (readAlone e))
 
     go : (own : BlockRead) → readAmong (clearedAll es) own ≡ readAmong es own
     go (Typed b) = by-need (needsOf b) (Typed b)
+    go (Rle r) = refl
     go Unknown = refl
     go (Dropped reason) = refl
 

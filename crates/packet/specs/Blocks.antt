@@ -8,7 +8,7 @@ use Rattle.refusal.specs.Answer.{unless}
 use Rattle.block.specs.Types.{unmeasured}
 use Rattle.block.specs.Reading.{readBlock, needsOf, measuresOf}
 use Rattle.block.specs.declared.BlockRead.{BlockRead}
-use Rattle.block.specs.declared.BlockRead.the-variants.{Typed, Unknown, Dropped}
+use Rattle.block.specs.declared.BlockRead.the-variants.{Typed, Rle, Unknown, Dropped}
 use Rattle.block.specs.declared.Needs.{Needs}
 use Rattle.block.specs.declared.Needs.the-variants.{Nothing, MeasurementOf}
 use Rattle.block.specs.declared.Measures.{Measures}
@@ -39,6 +39,7 @@ given es (MeasurementOf source) answer = unless (measured source es) (Dropped un
 
 abbrev pub readAmong : List Entry → BlockRead → BlockRead
 readAmong es (Typed b) = given es (needsOf b) (Typed b)
+readAmong es (Rle r) = Rle r
 readAmong es Unknown = Unknown
 readAmong es (Dropped reason) = Dropped reason
 

@@ -113,6 +113,7 @@ fn judge(s: &[u8], own: BlockRead) -> BlockRead
             }
             Needs::Nothing => own,
         },
+        BlockRead::Rle(_) => own,
         BlockRead::Unknown => own,
         BlockRead::Dropped(_) => own,
     }

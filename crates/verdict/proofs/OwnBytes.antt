@@ -1,25 +1,38 @@
 -- The verdict of a block from its bytes is that of what reading them gives, where nothing is measured. Assumes nothing.
-use Prim.Native.Nat.{ℕ, _+_, _*_, _<_, _≤_}
+use Prim.Native.Nat.{ℕ, _+_, _-_, _*_, _<_, _≤_}
 use mathlib.Core.Path.{_≡_, refl, sym, ap, ap₂, _∙_}
 use mathlib.Core.Bool.{Bool, true, false}
 use mathlib.Core.List.{List, []}
 use native.Mathlib.Omega.{arith}
 use native.Mathlib.Decide.{ℕ-discrete}
 use borrow.Author.Tests.{eq-eqb, ne-eqb, le-leb, lt-leb}
-use lib.ListN.{length, getD, drop, length-drop}
-use lib.Seq.{getD-drop}
+use lib.Dec.{eqb}
+use lib.ListN.{length, getD, take, drop, length-drop}
+use lib.Seq.{getD-drop, take-all}
 use Rattle.refusal.specs.Answer.{unless}
 use Rattle.wire.specs.BigEndian.{be16, u16At}
 use Rattle.wire.proofs.Numbers.{u16-inside}
-use Rattle.block.specs.Types.{measurementType, lossType, discardType, effectiveType, streamsType, measurementWords, lossWords, discardWords, effectiveWords, streamsWords, badFlag, badRate, unmeasured}
-use Rattle.block.specs.Layouts.{flagIn}
-use Rattle.block.specs.Reading.{flagGood, ratesGood, sized, summaryRead, needsOf, readMeasurement, readLoss, readDiscard, readEffective, readStreams, readBlock, readBytes}
+use Rattle.block.specs.Types.{rleType, measurementType, lossType, discardType, effectiveType, streamsType, measurementWords, lossWords, discardWords, effectiveWords, streamsWords, badSize, badFlag, badRate, unmeasured, badChunks}
+use Rattle.block.specs.Layouts.{flagIn, thinningIn, rleIn}
+use Rattle.block.specs.Reading.{flagGood, ratesGood, sized, summaryRead, needsOf, readMeasurement, readLoss, readDiscard, readEffective, readStreams, rleSized, rleCovered, readRle, readBlock, readBytes}
+use Rattle.block.specs.declared.LossRle.{LossRle}
 use Rattle.block.specs.declared.Block.{Block}
-use Rattle.block.specs.declared.BlockRead.the-variants.{Typed, Dropped}
+use Rattle.block.specs.declared.BlockRead.{BlockRead}
+use Rattle.block.specs.declared.BlockRead.the-variants.{Typed, Rle, Dropped}
 use Rattle.block.specs.declared.Needs.the-variants.{Nothing, MeasurementOf}
 use Rattle.packet.specs.Blocks.{measured, readAmong}
 use Rattle.verdict.specs.Verdict.{verdictOf}
 use Rattle.verdict.specs.Alone.{sizeVerdict, summaryVerdict}
+
+-- a type 1 needs nothing of its packet, whatever its size, thinning and chunks come to
+abbrev rleAnswer : Bool → Bool → Bool → LossRle → BlockRead
+rleAnswer s t c r = unless s (Dropped badSize) (unless t (Dropped badFlag) (unless c (Dropped badChunks) (Rle r)))
+
+rle-is : (s t c : Bool) (r : LossRle) → verdictOf (rleAnswer s t c r) ≡ verdictOf (readAmong [] (rleAnswer s t c r))
+rle-is false t c r = refl
+rle-is true false c r = refl
+rle-is true true false r = refl
+rle-is true true true r = refl
 
 module _ (bytes : List ℕ) (some : 4 ≤ length bytes) where
   abbrev body : List ℕ
@@ -58,6 +71,13 @@ module _ (bytes : List ℕ) (some : 4 ≤ length bytes) where
   abbrev Is : ℕ → Type 0
   Is verdict = verdict ≡ verdictOf (readAmong [] (readBytes bytes))
 
+  -- the body as the part behind the first word
+  pub of-rle : getD bytes 0 0 ≡ rleType → Is (verdictOf (readRle (getD bytes 1 0) (take (length bytes - 4) body)))
+  unfolding readBytes readBlock readRle
+  of-rle k =
+      let rest = take-all (length bytes - 4) body (rw (length-drop 4 bytes) (omega arith)) in
+      rw (rest, le-leb 4 (length bytes) some, k) (rle-is (rleSized body) (eqb (thinningIn (getD bytes 1 0)) 0) (rleCovered body) (rleIn body))
+
   pub of-measurement : getD bytes 0 0 ≡ measurementType → Is (sizeVerdict (length bytes) (4 + 4 * measurementWords))
   unfolding readBytes readBlock readMeasurement
   of-measurement k = rw (le-leb 4 (length bytes) some, k) (size-is measurementWords _ refl)
@@ -78,9 +98,10 @@ module _ (bytes : List ℕ) (some : 4 ≤ length bytes) where
   unfolding readBytes readBlock readStreams
   of-streams k = rw (le-leb 4 (length bytes) some, k) (size-is streamsWords _ refl)
 
-  pub of-others : (getD bytes 0 0 ≡ measurementType → ⊥) → (getD bytes 0 0 ≡ lossType → ⊥) → (getD bytes 0 0 ≡ discardType → ⊥) → (getD bytes 0 0 ≡ effectiveType → ⊥) → (getD bytes 0 0 ≡ streamsType → ⊥) → Is 255
+  pub of-others : (getD bytes 0 0 ≡ rleType → ⊥) → (getD bytes 0 0 ≡ measurementType → ⊥) → (getD bytes 0 0 ≡ lossType → ⊥) → (getD bytes 0 0 ≡ discardType → ⊥) →
+      (getD bytes 0 0 ≡ effectiveType → ⊥) → (getD bytes 0 0 ≡ streamsType → ⊥) → Is 255
   unfolding readBytes readBlock
-  of-others a b c d e = rw (le-leb 4 (length bytes) some, ne-eqb _ _ a, ne-eqb _ _ b, ne-eqb _ _ c, ne-eqb _ _ d, ne-eqb _ _ e)
+  of-others r a b c d e = rw (le-leb 4 (length bytes) some, ne-eqb _ _ r, ne-eqb _ _ a, ne-eqb _ _ b, ne-eqb _ _ c, ne-eqb _ _ d, ne-eqb _ _ e)
 
 -- fewer than four bytes
 pub of-few : (bytes : List ℕ) → length bytes < 4 → 255 ≡ verdictOf (readAmong [] (readBytes bytes))

@@ -11,12 +11,13 @@ use lib.Seq.{getD-drop}
 use Rattle.refusal.specs.Answer.{unless}
 use Rattle.wire.specs.BigEndian.{be16, be32, u32At}
 use Rattle.wire.proofs.Numbers.{u32-inside}
-use Rattle.block.specs.Types.{badSize, badRate, unmeasured}
+use Rattle.block.specs.Types.{unmeasured}
 use Rattle.block.specs.Reading.{needsOf, readBlock, readBytes}
+use Rattle.block.specs.Laws.{OwnReason}
 use Rattle.block.proofs.Reasons.{own-reasons}
 use Rattle.block.specs.declared.Block.{Block}
 use Rattle.block.specs.declared.BlockRead.{BlockRead}
-use Rattle.block.specs.declared.BlockRead.the-variants.{Typed, Unknown, Dropped}
+use Rattle.block.specs.declared.BlockRead.the-variants.{Typed, Rle, Unknown, Dropped}
 use Rattle.block.specs.declared.Needs.{Needs}
 use Rattle.block.specs.declared.Needs.the-variants.{Nothing, MeasurementOf}
 use Rattle.frame.specs.Frames.{Entry}
@@ -37,6 +38,7 @@ typed-among es table same (Typed b) = by-need (needsOf b)
     by-need : (needs : Needs) → metBy table needs ≡ isTyped (given es needs (Typed b))
     by-need Nothing = refl
     by-need (MeasurementOf source) = same source ∙ by-measured (measured source es)
+typed-among es table same (Rle r) = refl
 typed-among es table same Unknown = refl
 typed-among es table same (Dropped reason) = refl
 
@@ -49,13 +51,12 @@ abbrev alone : BlockRead → ℕ
 alone own = verdictOf (readAmong [] own)
 
 module _ (bytes : List ℕ) where
-  -- a block by its own bytes is dropped with D1, D2 or D3
-  reasons : (reason : ℕ) → readBytes bytes ≡ Dropped reason → (badSize ≤ reason) × (reason ≤ badRate)
+  -- a block by its own bytes is never dropped with D4
+  reasons : (reason : ℕ) → readBytes bytes ≡ Dropped reason → OwnReason reason
   unfolding readBytes
   reasons reason = go (leb 4 (length bytes))
     where
-      go : (t : Bool) → unless t Unknown (readBlock (getD bytes 0 0) (getD bytes 1 0) (drop 4 bytes)) ≡ Dropped reason →
-          (badSize ≤ reason) × (reason ≤ badRate)
+      go : (t : Bool) → unless t Unknown (readBlock (getD bytes 0 0) (getD bytes 1 0) (drop 4 bytes)) ≡ Dropped reason → OwnReason reason
       go true h = own-reasons (getD bytes 0 0) (getD bytes 1 0) (drop 4 bytes) reason h
       go false h = let z : _≡_ {A = ℕ} 0 1 = cc in absurd (omega arith)
 
@@ -89,6 +90,7 @@ module _ (bytes : List ℕ) where
 
         go : (own : BlockRead) → readBytes bytes ≡ own → alone own ≡ 0 → true ≡ typedBy table own
         go (Typed b) o h = by-need b (needsOf b) h
+        go (Rle r) o h = absurd (omega arith)
         go Unknown o h = absurd (omega arith)
         go (Dropped reason) o h = let few = reasons reason o in absurd (omega arith)
 
@@ -102,8 +104,9 @@ module _ (bytes : List ℕ) where
 
         go : (own : BlockRead) → readBytes bytes ≡ own → alone own ≡ unmeasured → member (u32At bytes 4) table ≡ typedBy table own
         go (Typed b) o h = by-need b (needsOf b) o refl h
+        go (Rle r) o h = absurd (omega arith)
         go Unknown o h = absurd (omega arith)
-        go (Dropped reason) o h = let few = reasons reason o in absurd (omega arith)
+        go (Dropped reason) o h = absurd (reasons reason o .2 h)
 
     pub typed-never : (alone (readBytes bytes) ≡ 0 → ⊥) → (alone (readBytes bytes) ≡ unmeasured → ⊥) →
         false ≡ typedBy table (readBytes bytes)
@@ -117,5 +120,6 @@ module _ (bytes : List ℕ) where
 
         go : (own : BlockRead) → (alone own ≡ 0 → ⊥) → (alone own ≡ unmeasured → ⊥) → false ≡ typedBy table own
         go (Typed b) z w = by-need b (needsOf b) z w
+        go (Rle r) z w = refl
         go Unknown z w = refl
         go (Dropped reason) z w = refl

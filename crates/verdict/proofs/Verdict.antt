@@ -17,7 +17,7 @@ use Rattle.block.proofs.Cases.{typed-answers}
 use Rattle.block.proofs.Reasons.{own-reasons}
 use Rattle.block.specs.declared.Block.{Block}
 use Rattle.block.specs.declared.BlockRead.{BlockRead}
-use Rattle.block.specs.declared.BlockRead.the-variants.{Typed, Unknown, Dropped}
+use Rattle.block.specs.declared.BlockRead.the-variants.{Typed, Rle, Unknown, Dropped}
 use Rattle.block.specs.declared.Needs.{Needs}
 use Rattle.block.specs.declared.Needs.the-variants.{Nothing, MeasurementOf}
 use Rattle.frame.specs.Frames.{Entry, bodyLength, nextAt, entryAt}
@@ -42,6 +42,7 @@ verdict-small es e = go (readAlone e) refl
 
     go : (own : BlockRead) → readAlone e ≡ own → verdictOf (readAmong es own) < 256
     go (Typed b) o = by-need b (needsOf b)
+    go (Rle r) o = omega arith
     go Unknown o = omega arith
     go (Dropped reason) o = let few = own-reasons (e .kind) (e .specific) (e .body) reason o in omega arith
 
@@ -56,6 +57,7 @@ settled es e h = go (readAlone e) h
 
     go : (own : BlockRead) → (verdictOf (readAmong [] own) ≡ unmeasured → ⊥) → verdictOf (readAmong es own) ≡ verdictOf (readAmong [] own)
     go (Typed b) n = by-need b (needsOf b) n
+    go (Rle r) n = refl
     go Unknown n = refl
     go (Dropped reason) n = refl
 
@@ -75,6 +77,7 @@ needs-source type specific body b source r =
 -- a block that is D4 there is D4 where its source is not measured, and otherwise typed
 dropped-so : (answer : BlockRead) → verdictOf answer ≡ unmeasured → answer ≡ Dropped unmeasured
 dropped-so (Typed b) h = absurd (omega arith)
+dropped-so (Rle r) h = absurd (omega arith)
 dropped-so Unknown h = absurd (omega arith)
 dropped-so (Dropped reason) h = ap Dropped h
 

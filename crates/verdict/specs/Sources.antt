@@ -10,7 +10,7 @@ use lib.ListN.{length, take, set}
 use Rattle.sorting.specs.Order.{Sorted}
 use Rattle.block.specs.Reading.{needsOf}
 use Rattle.block.specs.declared.BlockRead.{BlockRead}
-use Rattle.block.specs.declared.BlockRead.the-variants.{Typed, Unknown, Dropped}
+use Rattle.block.specs.declared.BlockRead.the-variants.{Typed, Rle, Unknown, Dropped}
 use Rattle.block.specs.declared.Needs.{Needs}
 use Rattle.block.specs.declared.Needs.the-variants.{Nothing, MeasurementOf}
 use Rattle.block.specs.declared.Measures.{Measures}
@@ -45,5 +45,6 @@ metBy table (MeasurementOf source) = member source table
 -- whether a block that was read by itself is typed in a packet whose measured sources are those of the table
 abbrev pub typedBy : List ℕ → BlockRead → Bool
 typedBy table (Typed b) = metBy table (needsOf b)
+typedBy table (Rle r) = false
 typedBy table Unknown = false
 typedBy table (Dropped reason) = false

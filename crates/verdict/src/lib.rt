@@ -1,5 +1,6 @@
 // A block's verdict as a number: from its own bytes, and, where it waits for a measurement, from a table of the measured
 // sources.
+use block::BlockRead;
 use block::Measures;
 ghost use mathlib.Core.Path.{_≡_};
 ghost use mathlib.Core.Bool.{cond};
@@ -8,7 +9,7 @@ ghost use lib.Dec.{leb};
 ghost use Prim.Native.Nat.{_<_, _≤_};
 ghost use lib.ListN.{length};
 ghost use Rattle.sorting.specs.Order.{Sorted};
-ghost use Rattle.block.specs.Reading.{readBytes, measuresOf};
+ghost use Rattle.block.specs.Reading.{readRle, readBytes, measuresOf};
 ghost use Rattle.packet.specs.Blocks.{readAmong};
 ghost use Rattle.verdict.specs.Verdict.{verdictOf};
 ghost use Rattle.verdict.specs.Search.{Search};
@@ -18,10 +19,12 @@ ghost use Rattle.verdict.specs.Alone.{sizeVerdict, summaryVerdict};
 // The verdicts besides the reasons to drop a block.
 pub const TYPED: u8 = 0;
 
+pub const RLE: u8 = 254;
+
 pub const UNKNOWN: u8 = 255;
 
-// The verdict of a block of these bytes in a packet that measures nothing: as `block::read_bytes` has it, without its struct,
-// but a good 17 or 18 is unmeasured. Fewer than four bytes are no block, and unknown.
+// The verdict of a block of these bytes in a packet that measures nothing: as `block::read_bytes` has it, but a good 17 or 18
+// is unmeasured. A typed block's struct is not made. Fewer than four bytes are no block, and unknown.
 pub fn alone(bytes: &[u8]) -> u8
     ensures { λ r. ⌜ r ≡ verdictOf (readAmong [] (readBytes (now (bytes .entry)))) ⌝ }
 {
@@ -30,12 +33,25 @@ pub fn alone(bytes: &[u8]) -> u8
     }
     let kind = bytes[0];
     match kind {
+        1 => rle_verdict(bytes[1], &bytes[4..]),
         14 => size_verdict(bytes.len(), 4 + block::MEASUREMENT_BYTES),
         17 => summary_verdict(bytes, 4 + block::LOSS_BYTES, bytes[1] / 64),
         18 => summary_verdict(bytes, 4 + block::DISCARD_BYTES, bytes[1] / 64),
         240 => size_verdict(bytes.len(), 4 + block::EFFECTIVE_BYTES),
         241 => size_verdict(bytes.len(), 4 + block::STREAMS_BYTES),
         _ => UNKNOWN,
+    }
+}
+
+// The verdict of a type 1, which waits for no measurement. Only its chunks tell whether it is good, so that it is read.
+fn rle_verdict(specific: u8, body: &[u8]) -> u8
+    ensures { λ r. ⌜ r ≡ verdictOf (readRle specific (now (body .entry))) ⌝ }
+{
+    match block::read_rle(specific, body) {
+        BlockRead::Typed(_) => TYPED,
+        BlockRead::Rle(_) => RLE,
+        BlockRead::Unknown => UNKNOWN,
+        BlockRead::Dropped(reason) => reason,
     }
 }
 

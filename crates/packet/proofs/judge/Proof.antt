@@ -30,6 +30,9 @@ enum-told-2 c = search needs
 enum-told-3 : tie.Need-enum-told-3
 enum-told-3 c = search needs
 
+enum-told-4 : tie.Need-enum-told-4
+enum-told-4 c = search needs
+
 returns-2 : tie.Need-returns-2
 returns-2 c =
     lacks-measurement _ _ _ _ (c .before .before .before .before .before .before .before .own .given .1) (sym (c .before .before .before .before .before .needed-by .ensures) ∙ c .before .before .before .source .given .1) (sym (c .before .has-measurement .ensures) ∙ c .if1 .left)
@@ -43,6 +46,9 @@ returns-4 c = search needs
 returns-5 : tie.Need-returns-5
 returns-5 c = search needs
 
+returns-6 : tie.Need-returns-6
+returns-6 c = search needs
+
 pub judge-spec : {M : Type 1} → statement M
 judge-spec =
     tie.close
@@ -55,7 +61,9 @@ judge-spec =
     enum-told
     enum-told-2
     enum-told-3
+    enum-told-4
     returns-2
     returns-3
     returns-4
-    returns-5)
+    returns-5
+    returns-6)
