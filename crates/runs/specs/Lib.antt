@@ -1,0 +1,4 @@
+pub mod Writing
+pub mod Answers
+pub mod Packets
+pub mod Laws
