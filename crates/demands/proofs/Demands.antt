@@ -18,7 +18,11 @@ use Rattle.card.proofs.RoundTrip.{read-written, written-read}
 use Rattle.frame.proofs.Filling.{past-exactly}
 use Rattle.trace.specs.declared.Event.the-variants.{Lost}
 use Rattle.trace.specs.Trace.{packetMax, traceMax, countedAt, judged}
-use Rattle.trace.proofs.Judging.{first-bad, accepted-trace, trace-accepted}
+use Rattle.trace.proofs.Judging.{first-above, accepted-within, within-accepted}
+use Rattle.chunk.proofs.Covering.{covers-exactly, uncovered-exactly, vector-bit, vector-lost, run-packets}
+use Rattle.block.proofs.RleLaws.{rle-exactly, d1-exactly, d2-exactly, d5-exactly}
+use Rattle.runs.proofs.Again.{trace-of-block, added-read}
+use Rattle.runs.proofs.Fewest.{written-chunks, chunk-count, fewest}
 use Rattle.tally.specs.declared.Tally.{Tally}
 use Rattle.tally.specs.declared.Answer.the-variants.{Accepted as Answer·Accepted, Refused as Answer·Refused}
 use Rattle.tally.specs.Tally.{sound, stepOf, refusedWith, takeOne}
@@ -27,6 +31,7 @@ use Rattle.resend.proofs.Repair.{few-left}
 use Rattle.frame.specs.Packet.{packetOf}
 use Rattle.compare.specs.declared.Compared.{Compared}
 use Rattle.compare.specs.Answer.{differencesOf, withDifferences}
+use Rattle.compare.specs.Differences.{contentOf}
 use Rattle.compare.proofs.Contents.{content-at}
 use Rattle.compare.proofs.Empty.{empty-exactly, self-empty, reserved-empty, turned-round}
 use Rattle.compare.proofs.Listed.{listed-exactly}
@@ -63,6 +68,8 @@ unchanged =
       packet-compare = λ s t out r h. ap (λ (answer : Compared). withDifferences answer (differencesOf (packetOf s) (packetOf t)) out) h;
       packet-new = λ sender out r h. kept _ _ out r h;
       packet-add = λ out b r h. kept _ _ out r h;
+      packet-rle = λ s k out r h. kept _ _ out r h;
+      packet-add-rle = λ out source begin s r h. kept _ _ out r h;
       resend-plan = λ event s b t out r h. refused-unchanged _ _ _ b t out r h;
       tally-take = given-back;
     }
@@ -71,7 +78,7 @@ pub demand-1 : Demand1
 demand-1 =
     record {
       each-call = each-call;
-      conditions = record { past = past-exactly; first-bad = first-bad; accepted = accepted-trace; accepts = trace-accepted };
+      conditions = record { past = past-exactly; first-bad = first-above; accepted = accepted-within; accepts = within-accepted };
       at-boundary = at-boundary;
       unchanged = unchanged;
     }
@@ -93,6 +100,25 @@ demand-2 =
             room = room-enough;
           };
       panels-shown = panels-shown;
+      runs-kept =
+          record {
+            exactly = rle-exactly;
+            d1 = d1-exactly;
+            d2 = d2-exactly;
+            d5 = d5-exactly;
+            covers = covers-exactly;
+            causes = uncovered-exactly;
+            vector-bit = vector-bit;
+            vector-lost = vector-lost;
+            run-packets = run-packets;
+            trace = trace-of-block;
+            again = added-read;
+            chunks = written-chunks;
+            count = chunk-count;
+            fewest = fewest;
+            compared = λ es e r is. ap (contentOf e) is;
+            shown = λ type r. record { verdict = refl; source = refl; begin = refl; end = refl; packets = refl; lost = refl };
+          };
       as-published = as-published;
       never-unavailable = never-unavailable;
       cards-guarded =

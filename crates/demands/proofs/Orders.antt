@@ -8,6 +8,7 @@ use native.Mathlib.Decide.{decLe}
 use borrow.Author.Tests.{le-leb, lt-leb, lt-ltb, le-ltb}
 use lib.Dec.{eqb, leb, ltb}
 use lib.ListN.{length, getD}
+use lib.Seq.{append-snoc}
 use Rattle.refusal.specs.Answer.{unless, ifAccepted}
 use Rattle.refusal.specs.Table.{packetShort, version, packetType, packetLength, padding, blockPastEnd, noSuchBlock, bufferShort, traceByte, traceLength, cardDigits, cardCheck, cardField, batchLength, setting, blockValue, packetFull}
 use Rattle.refusal.specs.declared.Refusal.{Refusal}
@@ -26,13 +27,22 @@ use Rattle.frame.specs.declared.Header.{Header}
 use Rattle.frame.specs.declared.Header.the-variants.{Sender, Refused as Header·Refused}
 use Rattle.frame.specs.Frames.{Entry, Frames, whole, past, firstBlock, entriesOf}
 use Rattle.frame.specs.Packet.{Packet, good, bad, numbered, sizeIn, sizeFits, headerOf, ofFrames, framed, packetIn, packetOf, locatedOf}
+use Rattle.block.specs.Types.{intervalMax}
+use Rattle.block.specs.Layouts.{covered}
+use Rattle.block.specs.declared.LossRle.{LossRle}
+use Rattle.block.specs.declared.BlockRead.the-variants.{Typed, Rle, Unknown, Dropped}
+use Rattle.packet.specs.declared.BlockAt.{BlockAt}
+use Rattle.packet.specs.declared.BlockAt.the-variants.{Found, Refused as Block·Refused}
 use Rattle.packet.specs.Answers.{headOf, found, blockOf}
+use Rattle.runs.specs.Writing.{rleWords, ownOf as rleOwn, addAnswer as rleAnswer}
+use Rattle.runs.specs.Answers.{traceFound, traceAnswer, traceAt}
+use Rattle.runs.proofs.Again.{trace-of-block}
 use Rattle.survey.specs.Survey.{listAnswer}
 use Rattle.compare.specs.Answer.{differencesOf, compareAnswer}
 use Rattle.compose.specs.Writing.{lengthAfter, lengthMax, sizeAfter, appended, appendAnswer, ownOf, addAnswer}
 use Rattle.trace.specs.declared.Event.{Event}
 use Rattle.trace.specs.declared.Event.the-variants.{Lost, Discarded}
-use Rattle.trace.specs.Trace.{packetMax, traceMax, countedAt, lengthInRange, firstBad, judgedWithin, judged}
+use Rattle.trace.specs.Trace.{lost, packetMax, traceMax, countedAt, lengthWithin, firstAbove, judgedWithin, judged}
 use Rattle.bursts.specs.declared.FiguresRead.{FiguresRead}
 use Rattle.bursts.specs.declared.FiguresRead.the-variants.{Accepted as Figures·Accepted, Refused as Figures·Refused}
 use Rattle.tally.specs.declared.Tally.{Tally}
@@ -48,7 +58,7 @@ use Rattle.batch.specs.Judging.{judgedFor}
 use Rattle.batch.specs.Loss.{lossAnswer}
 use Rattle.resend.specs.declared.Planned.the-variants.{Refused as Planned·Refused}
 use Rattle.resend.specs.Answer.{planAnswer}
-use Rattle.demands.specs.Orders.{Row, when, judgedBy, headerRows, pastRows, framesAt, blocksIn, packetRows, roomRows, ownRows, traceRows, figuresRows, batchRows, EachCall}
+use Rattle.demands.specs.Orders.{Row, when, judgedBy, headerRows, pastRows, framesAt, blocksIn, packetRows, roomRows, ownRows, traceRowsWithin, traceRows, isRle, figuresRows, batchRows, EachCall}
 use Rattle.demands.specs.Verdicts.{ofWritten, ofCard, ofHead, ofBlock, ofCompared, ofFigures, ofSummary, ofOpened, ofTaken, ofLoss, ofPlanned, ofLocated}
 
 -- "less" is "not at least"
@@ -70,6 +80,10 @@ not-less a b = go (decLe b a)
 answered : Accepted ≡ judgedBy []
 unfolding judgedBy
 answered = refl
+
+first-fails : (r : Refusal) (rows : List Row) → judgedBy rows ≡ judgedBy (when false r ∷ rows)
+unfolding judgedBy
+first-fails r rows = refl
 
 first-holds : (r : Refusal) (rows : List Row) → Refused r ≡ judgedBy (when true r ∷ rows)
 unfolding judgedBy
@@ -188,6 +202,41 @@ packet-add : (s : List ℕ) (b : Block) → ofWritten (addAnswer s b) ≡ judged
 packet-add s b =
     append-rows s (ownOf b) (length (wordsOf b)) (when (not (writable b)) blockValue ∷ []) (line (λ (j : Judged). j) (writable b) blockValue _ _ [] refl answered)
 
+-- traces by themselves
+within-rows : (limit highest : ℕ) (s : List ℕ) → judgedWithin limit highest s ≡ judgedBy (traceRowsWithin limit highest s)
+unfolding judgedWithin
+within-rows limit highest s =
+    line (λ (j : Judged). j) (lengthWithin limit s) traceLength _ _ _ refl
+    (at-least (λ (j : Judged). j) (length s) (firstAbove highest s) (traceByte (firstAbove highest s)) _ _ [] refl answered)
+
+trace-rows : (s : List ℕ) → judged s ≡ judgedBy (traceRows s)
+trace-rows s = within-rows traceMax packetMax s
+
+-- a trace read out: the lines of asking for its block, then its own
+trace-found : (a : BlockAt) (n : ℕ) (out : List ℕ) → ((type : ℕ) (r : LossRle) → a ≡ Found type (Rle r) → n ≡ covered (r .begin) (r .end)) →
+    ofWritten (traceFound a out) ≡ ifAccepted (ofBlock a) Refused (judgedBy (when (not (isRle a)) noSuchBlock ∷ when (ltb (length out) n) bufferShort ∷ []))
+trace-found (Found type (Typed b)) n out long = first-holds noSuchBlock _
+trace-found (Found type (Rle r)) n out long =
+    rw (long type r refl) (at-least ofWritten (covered (r .begin) (r .end)) (length out) bufferShort _ _ [] refl answered ∙ first-fails noSuchBlock _)
+trace-found (Found type Unknown) n out long = first-holds noSuchBlock _
+trace-found (Found type (Dropped reason)) n out long = first-holds noSuchBlock _
+trace-found (Block·Refused r) n out long = refl
+
+packet-rle : (s : List ℕ) (k : ℕ) (out : List ℕ) →
+    ofWritten (traceAnswer (packetOf s) k out)
+    ≡ judgedBy (packetRows Whole s ++ when (leb (blocksIn s) k) noSuchBlock ∷ when (not (isRle (blockOf (packetOf s) k))) noSuchBlock ∷ when (ltb (length out) (length (traceAt (packetOf s) k))) bufferShort ∷ [])
+packet-rle s k out =
+    let p : Packet = packetOf s in
+    let own : List Row = when (not (isRle (blockOf p k))) noSuchBlock ∷ when (ltb (length out) (length (traceAt p k))) bufferShort ∷ [] in
+    trace-found (blockOf p k) (length (traceAt p k)) out (λ type r is. trace-of-block s k type r is .long)
+    ∙ ap (λ (j : Judged). ifAccepted j Refused (judgedBy own)) (packet-block s k)
+    ∙ sym (both-orders (packetRows Whole s ++ when (leb (blocksIn s) k) noSuchBlock ∷ []) own)
+    ∙ ap judgedBy (append-snoc (packetRows Whole s) (when (leb (blocksIn s) k) noSuchBlock) own)
+
+packet-add-rle : (out : List ℕ) (source begin : ℕ) (s : List ℕ) →
+    ofWritten (rleAnswer out source begin s) ≡ judgedBy (packetRows Front out ++ (traceRowsWithin intervalMax lost s ++ roomRows out (length (rleWords source begin s))))
+packet-add-rle out source begin s = append-rows out (rleOwn s) (length (rleWords source begin s)) (traceRowsWithin intervalMax lost s) (within-rows intervalMax lost s)
+
 located-frames : (sender : ℕ) (f : Frames) (k : ℕ) → ofLocated (locatedOf (ofFrames sender f) k) ≡ judgedBy (pastRows f)
 located-frames sender (whole es) k = answered
 located-frames sender (past offset) k = first-holds (blockPastEnd offset) []
@@ -197,12 +246,6 @@ unfolding packetIn
 locate extent s k = header extent s (λ h. ofLocated (locatedOf (framed h s) k)) (λ r. refl) (pastRows (framesAt s)) (located-frames (be32 s 4) (framesAt s) k)
 
 -- traces
-trace-rows : (s : List ℕ) → judged s ≡ judgedBy (traceRows s)
-unfolding judgedWithin
-trace-rows s =
-    line (λ (j : Judged). j) (lengthInRange s) traceLength _ _ _ refl
-    (at-least (λ (j : Judged). j) (length s) (firstBad s) (traceByte (firstBad s)) _ _ [] refl answered)
-
 figures-rows : {A : Type 0} (v : A → Judged) (gmin spacing : ℕ) (s : List ℕ) (refused : Refusal → A) (rest : A) → ((r : Refusal) → v (refused r) ≡ Refused r) → v rest ≡ judgedBy [] →
     v (unless (burstInRange gmin spacing) (refused setting) (ifAccepted (judged s) refused rest)) ≡ judgedBy (figuresRows gmin spacing s)
 figures-rows v gmin spacing s refused rest n e =
@@ -283,6 +326,8 @@ each-call =
       packet-compare = packet-compare;
       packet-new = λ out. at-least ofWritten firstBlock (length out) bufferShort _ _ [] refl answered;
       packet-add = packet-add;
+      packet-rle = packet-rle;
+      packet-add-rle = packet-add-rle;
       append = λ s own n. append-rows s own n (ownRows own) (own-rows own);
       trace = trace-rows;
       batch = batch-rows;

@@ -18,6 +18,7 @@ use Rattle.demands.specs.Boundary.{AtBoundary}
 use Rattle.demands.specs.Packets.{PacketsRead, PacketsWritten, BlocksAgain, PacketsCompared}
 use Rattle.demands.specs.Formulas.{AsPublished, NeverUnavailable}
 use Rattle.demands.specs.Panels.{PanelsShown}
+use Rattle.demands.specs.Runs.{RunsKept}
 use Rattle.demands.specs.Cards.{CardsGuarded}
 
 -- 1.
@@ -41,6 +42,8 @@ pub record Demand2 : Type 0 where
   pub packets-compared : PacketsCompared
   -- document 02, ticket 4: "The panel shows only a block 17 or 18 that refusal 16 lets through"
   pub panels-shown : PanelsShown
+  -- document 02, ticket 5: "Turn such a block into a trace (received or lost) and write a trace as one."
+  pub runs-kept : RunsKept
   -- "Burst, gap and effective loss figures equal their published formulas,"
   pub as-published : AsPublished
   -- "and a figure that could be measured is never sent as unavailable."

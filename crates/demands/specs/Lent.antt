@@ -16,6 +16,8 @@ use Rattle.survey.specs.Survey.{listOf, listAnswer}
 use Rattle.compare.specs.Answer.{compareAnswer, listAfter}
 use Rattle.compare.specs.declared.Compared.the-variants.{Refused as Compared·Refused}
 use Rattle.compose.specs.Writing.{newBytes, newAnswer, grown, addAnswer}
+use Rattle.runs.specs.Writing.{rleWords, addAnswer as rleAnswer}
+use Rattle.runs.specs.Answers.{traceAnswer, traceAt}
 use Rattle.trace.specs.declared.Event.{Event}
 use Rattle.trace.specs.Trace.{countedAt, judged}
 use Rattle.tally.specs.declared.Tally.{Tally}
@@ -32,6 +34,9 @@ pub record Unchanged : Type 0 where
   pub packet-compare : (s t out : List ℕ) (r : Refusal) → compareAnswer (packetOf s) (packetOf t) out ≡ Compared·Refused r → listAfter (packetOf s) (packetOf t) out ≡ out
   pub packet-new : (sender : ℕ) (out : List ℕ) (r : Refusal) → newAnswer out ≡ Refused r → after (newAnswer out) (newBytes sender) out ≡ out
   pub packet-add : (out : List ℕ) (b : Block) (r : Refusal) → addAnswer out b ≡ Refused r → after (addAnswer out b) (grown out (wordsOf b)) out ≡ out
+  pub packet-rle : (s : List ℕ) (k : ℕ) (out : List ℕ) (r : Refusal) → traceAnswer (packetOf s) k out ≡ Refused r → after (traceAnswer (packetOf s) k out) (traceAt (packetOf s) k) out ≡ out
+  pub packet-add-rle : (out : List ℕ) (source begin : ℕ) (s : List ℕ) (r : Refusal) → rleAnswer out source begin s ≡ Refused r →
+      after (rleAnswer out source begin s) (grown out (rleWords source begin s)) out ≡ out
   pub resend-plan : (event : Event) (s : List ℕ) (b t : ℕ) (out : List ℕ) (r : Refusal) →
       planAnswer (judged s) (countedAt event s) (length s) b t out ≡ Planned·Refused r → bufferAfter (judged s) (countedAt event s) (length s) b t out ≡ out
   pub tally-take : (t : Tally) (packet : ℕ) (r : Refusal) → takeOne t packet .answer ≡ Answer·Refused r → takeOne t packet .tally ≡ t

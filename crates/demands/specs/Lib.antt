@@ -6,5 +6,6 @@ pub mod Places
 pub mod Packets
 pub mod Formulas
 pub mod Panels
+pub mod Runs
 pub mod Cards
 pub mod Demands

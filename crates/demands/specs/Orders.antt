@@ -2,7 +2,7 @@
 -- judged, each beside its condition; the call gives the first whose condition holds, and answers where none does.
 use Prim.Native.Nat.{ℕ, _*_, _/_, _%_}
 use mathlib.Core.Path.{_≡_}
-use mathlib.Core.Bool.{Bool, true, cond, not}
+use mathlib.Core.Bool.{Bool, true, false, cond, not}
 use mathlib.Core.List.{List, [], _∷_, _++_}
 use lib.Dec.{eqb, leb, ltb}
 use lib.ListN.{length, getD}
@@ -19,12 +19,18 @@ use Rattle.frame.specs.declared.Extent.{Extent}
 use Rattle.frame.specs.declared.Extent.the-variants.{Whole, Front}
 use Rattle.frame.specs.Frames.{Frames, whole, past, firstBlock, framesIn, entriesOf}
 use Rattle.frame.specs.Packet.{sizeIn, sizeFits, packetOf}
+use Rattle.block.specs.Types.{intervalMax}
+use Rattle.block.specs.declared.BlockRead.the-variants.{Typed, Rle, Unknown, Dropped}
+use Rattle.packet.specs.declared.BlockAt.{BlockAt}
+use Rattle.packet.specs.declared.BlockAt.the-variants.{Found, Refused as Block·Refused}
 use Rattle.packet.specs.Answers.{headOf, blockOf}
+use Rattle.runs.specs.Writing.{rleWords, addAnswer as rleAnswer}
+use Rattle.runs.specs.Answers.{traceAnswer, traceAt}
 use Rattle.survey.specs.Survey.{listAnswer}
 use Rattle.compare.specs.Answer.{differencesOf, compareAnswer}
 use Rattle.compose.specs.Writing.{newAnswer, lengthAfter, lengthMax, sizeAfter, addAnswer}
 use Rattle.trace.specs.declared.Event.{Event}
-use Rattle.trace.specs.Trace.{packetMax, traceMax, countedAt, lengthInRange, firstBad, judged}
+use Rattle.trace.specs.Trace.{lost, packetMax, traceMax, countedAt, lengthWithin, firstAbove, judged}
 use Rattle.tally.specs.declared.Tally.{Tally}
 use Rattle.tally.specs.Tally.{openOf, sound, takeOne, closeOf}
 use Rattle.figures.specs.Figures.{figuresIn, summaryOf}
@@ -38,7 +44,7 @@ use Rattle.bursts.specs.declared.Sums.{Sums}
 use Rattle.bursts.specs.Sums.{sumsSound}
 use Rattle.bursts.specs.Figures.{measureOf}
 use Rattle.tally.specs.Tally.{ofTrace}
-use Rattle.trace.specs.Laws.{Accepted-trace, Trace-accepted, First-bad}
+use Rattle.trace.specs.Laws.{Accepted-within, Within-accepted, First-above}
 use Rattle.demands.specs.Verdicts.{ofWritten, ofCard, ofHead, ofBlock, ofCompared, ofFigures, ofSummary, ofOpened, ofTaken, ofLoss, ofPlanned, ofLocated}
 
 -- a refusal of the table beside its condition
@@ -88,9 +94,21 @@ abbrev pub ownRows : Judged → List Row
 ownRows Accepted = []
 ownRows (Refused r) = when true r ∷ []
 
--- 10 and 9 of a trace
+-- 10 and 9 of a trace, with these limits on its packets and on its bytes
+abbrev pub traceRowsWithin : ℕ → ℕ → List ℕ → List Row
+traceRowsWithin limit highest s =
+    when (not (lengthWithin limit s)) traceLength ∷ when (ltb (firstAbove highest s) (length s)) (traceByte (firstAbove highest s)) ∷ []
+
 abbrev pub traceRows : List ℕ → List Row
-traceRows s = when (not (lengthInRange s)) traceLength ∷ when (ltb (firstBad s) (length s)) (traceByte (firstBad s)) ∷ []
+traceRows s = traceRowsWithin traceMax packetMax s
+
+-- whether asking for a block found a good type 1
+abbrev pub isRle : BlockAt → Bool
+isRle (Found type (Typed b)) = false
+isRle (Found type (Rle r)) = true
+isRle (Found type Unknown) = false
+isRle (Found type (Dropped reason)) = false
+isRle (Block·Refused r) = false
 
 -- of "Traces: 15, 10, 9, 14, 8" what applies to burst figures
 abbrev pub figuresRows : ℕ → ℕ → List ℕ → List Row
@@ -125,6 +143,13 @@ pub record EachCall : Type 0 where
       ofWritten (addAnswer s b)
       ≡ judgedBy (packetRows Front s ++ (when (not (writable b)) blockValue ∷ roomRows s (length (wordsOf b))))
   pub append : (s : List ℕ) (own : Judged) (n : ℕ) → ofWritten (appendAnswer s own n) ≡ judgedBy (packetRows Front s ++ (ownRows own ++ roomRows s n))
+  -- document 02, ticket 5: "1 to 7 (7 too if that block is not a good type 1), then 8"
+  pub packet-rle : (s : List ℕ) (k : ℕ) (out : List ℕ) →
+      ofWritten (traceAnswer (packetOf s) k out)
+      ≡ judgedBy (packetRows Whole s ++ when (leb (blocksIn s) k) noSuchBlock ∷ when (not (isRle (blockOf (packetOf s) k))) noSuchBlock ∷ when (ltb (length out) (length (traceAt (packetOf s) k))) bufferShort ∷ [])
+  -- "the packet's own, then 10 for a trace empty or over 65,533, 9 with 2 counted as bad, 17, 8"
+  pub packet-add-rle : (out : List ℕ) (source begin : ℕ) (s : List ℕ) →
+      ofWritten (rleAnswer out source begin s) ≡ judgedBy (packetRows Front out ++ (traceRowsWithin intervalMax lost s ++ roomRows out (length (rleWords source begin s))))
   -- "Traces: 15, 10, 9, 14, 8", each call as far as it goes
   pub trace : (s : List ℕ) → judged s ≡ judgedBy (traceRows s)
   pub batch : (s : List ℕ) (b t : ℕ) → judgedFor (judged s) (length s) b t ≡ judgedBy (batchRows s b t)
@@ -146,9 +171,10 @@ pub record EachCall : Type 0 where
   pub tally-block : (t : Tally) (source flag : ℕ) → ofSummary (summaryOf (t .event) source flag (closeOf t)) ≡ judgedBy (when (not (sound t)) setting ∷ [])
 
 -- What the conditions say that are computed above: 6 is given exactly where a block runs past the end, placed at the first
--- such block's offset; 9 is placed at the first bad byte; and an accepted trace has 1 to 65,536 bytes, each 0, 1 or 2.
+-- such block's offset; 9 is placed at the first bad byte; and an accepted trace has 1 to 65,536 bytes, each 0, 1 or 2, or with other
+-- limits so many as these say.
 pub record Conditions : Type 0 where
   pub past : Past-exactly
-  pub first-bad : First-bad
-  pub accepted : Accepted-trace
-  pub accepts : Trace-accepted
+  pub first-bad : (highest : ℕ) → First-above highest
+  pub accepted : (limit highest : ℕ) → Accepted-within limit highest
+  pub accepts : (limit highest : ℕ) → Within-accepted limit highest
