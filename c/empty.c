@@ -23,6 +23,7 @@ static void check_reading(void)
     CHECK(nuvaskoe_panel_of_packet(NULL, 0, 0).lamp == 0);
     CHECK(nuvaskoe_block_read(9, 0, NULL, 0).verdict == NUVASKOE_VERDICT_UNKNOWN);
     CHECK(nuvaskoe_block_read(NUVASKOE_BLOCK_LOSS, 64, NULL, 0).verdict == NUVASKOE_VERDICT_BAD_SIZE);
+    CHECK(nuvaskoe_block_read(NUVASKOE_BLOCK_RLE, 0, NULL, 0).verdict == NUVASKOE_VERDICT_BAD_SIZE);
 }
 
 /* A packet without blocks needs no entry, so its list may be NULL too, and so may the list of its differences from itself. */
@@ -73,6 +74,28 @@ static void check_writing(void)
     CHECK(refused(nuvaskoe_packet_add_streams(NULL, 0, streams).refusal, NUVASKOE_REFUSAL_PACKET_SHORT));
 }
 
+/* A trace, the packet that it is read out of, and where it goes. A block on no packets needs no room. */
+static void check_runs(void)
+{
+    static const uint8_t none[20] = {0x80, 0xCF, 0, 4, 0, 0, 0, 1, 1, 0, 0, 2, 0, 0, 0, 5, 0, 7, 0, 7};
+    const uint8_t lost = 1;
+    uint8_t packet[24];
+    uint8_t held = 7;
+    nuvaskoe_written read = nuvaskoe_packet_rle(none, sizeof none, 0, NULL, 0);
+
+    CHECK(refused(read.refusal, NUVASKOE_OK) && read.size == 0);
+    CHECK(refused(nuvaskoe_packet_rle(NULL, 0, 0, NULL, 0).refusal, NUVASKOE_REFUSAL_PACKET_SHORT));
+    CHECK(refused(nuvaskoe_packet_rle(NULL, 0, 0, &held, 1).refusal, NUVASKOE_REFUSAL_PACKET_SHORT));
+    CHECK(refused(nuvaskoe_packet_rle(none, sizeof none, 1, NULL, 0).refusal, NUVASKOE_REFUSAL_NO_SUCH_BLOCK));
+    CHECK(held == 7);
+    CHECK(refused(nuvaskoe_packet_add_rle(NULL, 0, 5, 7, NULL, 0).refusal, NUVASKOE_REFUSAL_PACKET_SHORT));
+    CHECK(refused(nuvaskoe_packet_add_rle(NULL, 0, 5, 7, &lost, 1).refusal, NUVASKOE_REFUSAL_PACKET_SHORT));
+    CHECK(nuvaskoe_packet_new(1, packet, sizeof packet).size == 8);
+    CHECK(refused(nuvaskoe_packet_add_rle(packet, sizeof packet, 5, 7, NULL, 0).refusal, NUVASKOE_REFUSAL_TRACE_LENGTH));
+    CHECK(nuvaskoe_packet_add_rle(packet, sizeof packet, 5, 7, &lost, 1).size == sizeof packet);
+    CHECK(refused(nuvaskoe_packet_rle(packet, sizeof packet, 0, NULL, 0).refusal, NUVASKOE_REFUSAL_BUFFER_SHORT));
+}
+
 static void check_traces(void)
 {
     const uint8_t lost = 1;
@@ -91,6 +114,7 @@ int main(void)
     check_empty_list();
     check_comparing();
     check_writing();
+    check_runs();
     check_traces();
     return checked("empty.c");
 }

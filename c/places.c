@@ -1,7 +1,7 @@
 /* places.c: each kind of block written, read back, and every field found at the place that the header names. */
 #include "check.h"
 
-static uint8_t packet[160];
+static uint8_t packet[176];
 
 /* The last block of the packet, whose size is in the answer of adding it. */
 static nuvaskoe_block last(nuvaskoe_written added)
@@ -76,11 +76,25 @@ static void check_streams(void)
     AT(STREAMS, PTS_ERRORS, t.pts_errors);
 }
 
+static void check_rle(void)
+{
+    static const uint8_t trace[5] = {1, 0, 0, 1, 1};
+    nuvaskoe_block block = last(nuvaskoe_packet_add_rle(packet, sizeof packet, 26, 65534, trace, sizeof trace));
+
+    CHECK(block.block_type == NUVASKOE_BLOCK_RLE && block.verdict == NUVASKOE_VERDICT_RLE);
+    AT(RLE, SOURCE, 26u);
+    AT(RLE, BEGIN, 65534u);
+    AT(RLE, END, 3u);
+    AT(RLE, PACKETS, 5u);
+    AT(RLE, LOST, 3u);
+}
+
 int main(void)
 {
     CHECK(nuvaskoe_packet_new(1, packet, sizeof packet).size == 8);
     check_measurement();
     check_summaries();
     check_streams();
+    check_rle();
     return checked("places.c");
 }

@@ -15,11 +15,12 @@ static void check_words(void)
     CHECK(strcmp(nuvaskoe_refusal_meaning(NUVASKOE_REFUSAL_CARD_CHECK), "the card's check does not fit") == 0);
     CHECK(nuvaskoe_refusal_meaning(NUVASKOE_OK)[0] == '\0' && nuvaskoe_refusal_advice(NUVASKOE_OK)[0] == '\0');
     CHECK(nuvaskoe_refusal_meaning(NUVASKOE_REFUSAL_PACKET_FULL + 1)[0] == '\0');
-    for (number = NUVASKOE_VERDICT_BAD_SIZE; number <= NUVASKOE_VERDICT_UNMEASURED; number++) {
+    for (number = NUVASKOE_VERDICT_BAD_SIZE; number <= NUVASKOE_VERDICT_BAD_CHUNKS; number++) {
         CHECK(nuvaskoe_reason_meaning(number)[0] != '\0');
         CHECK(nuvaskoe_reason_advice(number)[0] != '\0');
     }
     CHECK(nuvaskoe_reason_meaning(NUVASKOE_VERDICT_TYPED)[0] == '\0');
+    CHECK(nuvaskoe_reason_meaning(NUVASKOE_VERDICT_RLE)[0] == '\0');
     CHECK(nuvaskoe_reason_advice(NUVASKOE_VERDICT_UNKNOWN)[0] == '\0');
 }
 

@@ -26,15 +26,16 @@ extern "C" {
 
 /* The version of this header: major * 10,000 + minor * 100 + patch. */
 #define NUVASKOE_VERSION_MAJOR 0
-#define NUVASKOE_VERSION_MINOR 4
+#define NUVASKOE_VERSION_MINOR 5
 #define NUVASKOE_VERSION_PATCH 0
-#define NUVASKOE_VERSION 400
+#define NUVASKOE_VERSION 500
 
 /* The version of the archive that is linked: that of this header is NUVASKOE_VERSION. */
 uint32_t nuvaskoe_version(void);
 
 /*
- * Why a call said no, by the numbers of the table of refusals. nuvaskoe_refusal_meaning and nuvaskoe_refusal_advice, at
+ * Why a call said no, by the numbers of the table of refusals; where a call means more by one, its comment says so.
+ * nuvaskoe_refusal_meaning and nuvaskoe_refusal_advice, at
  * the end, say what went wrong and what to do.
  */
 enum {
@@ -114,8 +115,9 @@ typedef struct nuvaskoe_packet {
     size_t blocks; /* how many blocks it has; 0 where refused */
 } nuvaskoe_packet;
 
-/* The types of the five kinds of block. */
+/* The types of the five kinds of block, and of Loss RLE. */
 enum {
+    NUVASKOE_BLOCK_RLE = 1, /* Loss RLE, which packets were lost: RFC 3611 */
     NUVASKOE_BLOCK_MEASUREMENT = 14, /* measurement information: RFC 6776 */
     NUVASKOE_BLOCK_LOSS = 17, /* bursts and gaps of lost packets: RFC 7004 */
     NUVASKOE_BLOCK_DISCARD = 18, /* bursts and gaps of discarded packets: RFC 7004 */
@@ -126,10 +128,14 @@ enum {
 /* What reading a block comes to: its verdict. */
 enum {
     NUVASKOE_VERDICT_TYPED = 0, /* one of the five kinds; fields hold it */
-    NUVASKOE_VERDICT_BAD_SIZE = 1, /* dropped, D1: a listed type with another length */
-    NUVASKOE_VERDICT_BAD_FLAG = 2, /* dropped, D2: interval flag 0 */
+    /* dropped, D1: one of the five types with another length; a type 1 of fewer than two words, or not of whole words */
+    NUVASKOE_VERDICT_BAD_SIZE = 1,
+    NUVASKOE_VERDICT_BAD_FLAG = 2, /* dropped, D2: interval flag 0; of a type 1, a thinning other than 0 */
     NUVASKOE_VERDICT_BAD_RATE = 3, /* dropped, D3: a rate from 32,769 to 65,534 */
     NUVASKOE_VERDICT_UNMEASURED = 4, /* dropped, D4: no measurement block for its source in the packet */
+    /* dropped, D5: a type 1 on over 65,533 packets, or whose chunks cover too few, are null before the end or not null behind it */
+    NUVASKOE_VERDICT_BAD_CHUNKS = 5,
+    NUVASKOE_VERDICT_RLE = 254, /* a good type 1; fields hold it, and nuvaskoe_packet_rle gives its trace */
     NUVASKOE_VERDICT_UNKNOWN = 255 /* a type that is not listed: its body is all there is */
 };
 
@@ -139,8 +145,15 @@ enum {
 #define NUVASKOE_UNAVAILABLE 65535 /* of a rate, mean or variance: it could not be measured */
 #define NUVASKOE_FULL_LOSS 65535 /* of an effective loss index, which has no reserved number */
 
-/* How many numbers the fields of any typed block take, and their places by type. */
+/* How many numbers the fields of any block take, and their places by type. */
 #define NUVASKOE_FIELDS 13
+enum {
+    NUVASKOE_FIELD_RLE_SOURCE = 0,
+    NUVASKOE_FIELD_RLE_BEGIN = 1,
+    NUVASKOE_FIELD_RLE_END = 2,
+    NUVASKOE_FIELD_RLE_PACKETS = 3,
+    NUVASKOE_FIELD_RLE_LOST = 4
+};
 enum {
     NUVASKOE_FIELD_MEASUREMENT_SOURCE = 0,
     NUVASKOE_FIELD_MEASUREMENT_FIRST = 1,
@@ -189,7 +202,7 @@ typedef struct nuvaskoe_block {
     nuvaskoe_refusal refusal;
     uint32_t block_type; /* 0 where refused */
     uint32_t verdict; /* NUVASKOE_VERDICT_UNKNOWN where refused */
-    uint32_t fields[NUVASKOE_FIELDS]; /* where typed, by the names of its type's places; all others 0 */
+    uint32_t fields[NUVASKOE_FIELDS]; /* where typed, or Loss RLE, by the names of its type's places; all others 0 */
 } nuvaskoe_block;
 
 /* Where a part of a packet lies. */
@@ -344,6 +357,32 @@ nuvaskoe_written nuvaskoe_packet_add_effective(uint8_t *out, size_t out_len, nuv
 
 /* Adds a block 241. */
 nuvaskoe_written nuvaskoe_packet_add_streams(uint8_t *out, size_t out_len, nuvaskoe_stream_counts block);
+
+/*
+ * Loss RLE: which packets of an interval were lost, as 16-bit chunks of runs and of bits (RFC 3611, section 4.1). A block of
+ * type 1 is none of the five kinds: its verdict is NUVASKOE_VERDICT_RLE or a reason, nuvaskoe_packet_compare looks at its bytes,
+ * and its panel is dark. Only vectors of bits are written; all chunks are read, a run past the end up to the end.
+ */
+
+/* The most packets of its interval. */
+#define NUVASKOE_INTERVAL_MAX 65533
+
+/*
+ * Reads the trace of block number index, a good block of type 1, into the front of out: a byte a packet, 0 received and 1 lost.
+ * A good read answers how many packets it has, those of the block's interval; the bytes after them keep what they held.
+ * Refusals: 1 to 7, 7 too where that block is not a good one of type 1, then 8.
+ */
+nuvaskoe_written nuvaskoe_packet_rle(const uint8_t *packet, size_t packet_len, size_t index, uint8_t *out,
+                                     size_t out_len);
+
+/*
+ * Adds a trace of received and lost packets as a block of type 1 to the packet at the front of out: begin is the sequence number
+ * of its first packet, and the block's end is begin plus the packets, modulo 65,536. A good add answers the packet's new size
+ * in bytes, as adding any block does. Refusals, after the packet's own: 10 for a trace empty or over 65,533, 9 for a byte other
+ * than 0 and 1, 17, 8.
+ */
+nuvaskoe_written nuvaskoe_packet_add_rle(uint8_t *out, size_t out_len, uint32_t source, uint16_t begin,
+                                         const uint8_t *trace, size_t trace_len);
 
 /*
  * Bursts and gaps of a trace: one byte a packet, 0 received, 1 lost, 2 discarded, from 1 to NUVASKOE_TRACE_MAX packets.
@@ -625,11 +664,13 @@ static inline const char *nuvaskoe_reason_meaning(uint32_t verdict)
     case NUVASKOE_VERDICT_BAD_SIZE:
         return "its length is not that of its type";
     case NUVASKOE_VERDICT_BAD_FLAG:
-        return "its interval flag is 0, which is reserved";
+        return "its interval flag is 0, which is reserved, or the thinning of Loss RLE (1) is not 0";
     case NUVASKOE_VERDICT_BAD_RATE:
         return "a rate is between 32,769 and 65,534, which no rate can be";
     case NUVASKOE_VERDICT_UNMEASURED:
         return "no measurement block (14) for its source is in the packet, so its figures have no span";
+    case NUVASKOE_VERDICT_BAD_CHUNKS:
+        return "the chunks of Loss RLE (1) end before its packets do or go on behind them, or it is on over 65,533 packets";
     default:
         return "";
     }
@@ -642,11 +683,13 @@ static inline const char *nuvaskoe_reason_advice(uint32_t verdict)
     case NUVASKOE_VERDICT_BAD_SIZE:
         return "its sender lays this type out in another way: tell its maker";
     case NUVASKOE_VERDICT_BAD_FLAG:
-        return "its sender must set the flag to 1, 2 or 3: tell its maker";
+        return "its sender must set the flag to 1, 2 or 3, or report on every packet: tell its maker";
     case NUVASKOE_VERDICT_BAD_RATE:
         return "take no figure of this block: its sender measures wrongly";
     case NUVASKOE_VERDICT_UNMEASURED:
         return "its sender must put a block 14 for this source into the same packet";
+    case NUVASKOE_VERDICT_BAD_CHUNKS:
+        return "take no trace of this block: its sender writes it wrongly";
     default:
         return "";
     }

@@ -35,6 +35,7 @@ DRIFTS = [
     ("a call missing from Rattle", RATTLE.format("ffi_tally"), "#[no_mangle]\npub extern \"C\" fn nuvaskoe_tally_close", "pub fn nuvaskoe_tally_close"),
     ("a constant of another value", RATTLE.format("bursts"), "OVER_RANGE: u16 = 65_534", "OVER_RANGE: u16 = 65_533"),
     ("another place of the packets covered", "crates/ffi_block/specs/Answers.antt", "take 3 (fieldsOf", "take 4 (fieldsOf"),
+    ("two places of Loss RLE exchanged", "crates/ffi_block/specs/Answers.antt", "r .source ∷ r .begin", "r .begin ∷ r .source"),
     ("two fields exchanged in layout order", "crates/block/specs/Fields.antt", "e .source ∷ e .index", "e .index ∷ e .source"),
     ("other words of a refusal", "README.md", "the card's check does not fit", "the card does not fit"),
     ("other advice on a reason", "README.md", "its sender measures wrongly", "its sender is wrong"),

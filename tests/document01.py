@@ -1,5 +1,5 @@
 """Document 01 computed a second time, by its definitions alone, for tests/cases.py; the variance and the last line of a sound
-tally are those of document 02, ticket 3.
+tally are those of document 02, ticket 3, and blocks of type 1 read as ticket 5 has it.
 
 Each function answers as the paper's paragraph of its name has it; a call that says no raises Refused with the number and
 place of the table "When the set says no". Speed does not matter here: plans are searched for, batches counted one by one.
@@ -7,6 +7,8 @@ place of the table "When the set says no". Speed does not matter here: plans are
 import heapq
 import itertools
 import struct
+
+import loss_rle
 
 WORDS = {14: 7, 17: 3, 18: 2, 240: 2, 241: 11}
 # The words after the first, as struct has them; 2x stands for 16 reserved bits.
@@ -102,6 +104,8 @@ def typed_text(kind, specific, body):
 
 
 def block_text(kind, specific, body, sources):
+    if kind == loss_rle.RLE:
+        return loss_rle.text(specific, body)
     if kind not in WORDS:
         return f"unknown type {kind} bytes {len(body)}"
     why = reason(kind, specific, body, sources)
@@ -130,13 +134,14 @@ def body_part(index, packet):
 
 
 def places_and_verdicts(packet, room):
-    """Two numbers a block: its offset, and 0 typed, 1 to 4 dropped, 255 unknown."""
+    """Two numbers a block: its offset, and 0 typed, 1 to 5 dropped, 254 a good type 1, 255 unknown."""
     blocks = packet_blocks(packet)
     refuse_if(room < 2 * len(blocks), 8)
     sources = measured_sources(blocks)
     entries = []
     for at, kind, specific, words in blocks:
-        entries += [at, reason(kind, specific, words, sources) if kind in WORDS else 255]
+        rle = kind == loss_rle.RLE and (loss_rle.read(specific, words)[0] or loss_rle.GOOD)
+        entries += [at, rle or (reason(kind, specific, words, sources) if kind in WORDS else 255)]
     return entries
 
 

@@ -1,8 +1,9 @@
-"""Document 02's tickets 1 and 4 computed a second time, by their definitions alone, over document 01's (document01.py)."""
+"""Document 02's tickets 1, 4 and 5 computed a second time, by their definitions alone, over document 01's (document01.py)."""
 
 import itertools
 import struct
 
+import loss_rle
 from document01 import LAYOUTS, UNAVAILABLE, WORDS, Refused, measured_sources, number_at, packet_blocks, reason, refuse_if
 
 
@@ -91,3 +92,28 @@ def panel(needles):
     """Each needle by the bits of its f32 and the lamp, which "is on exactly when at least one needle is lit"."""
     burst, gap = ("dark" if needle is None else struct.pack(">f", needle).hex() for needle in needles)
     return f"burst {burst} gap {gap} lamp {'off' if needles == DARK else 'on'}"
+
+
+# Ticket 5: Loss RLE
+
+def read_out(index, packet, room):
+    """The trace of a block, for which there is so much room: "7 too if that block is not a good type 1"."""
+    blocks = packet_blocks(packet)
+    refuse_if(index >= len(blocks) or blocks[index][1] != loss_rle.RLE, 7)
+    _, trace = loss_rle.read(*blocks[index][2:])
+    refuse_if(trace is None, 7)
+    refuse_if(room < len(trace), 8)
+    return trace
+
+
+def with_trace(buffer, source, begin, trace):
+    """The packet at the front of the buffer with a trace more."""
+    packet_blocks(buffer, len(buffer))
+    refuse_if(not 1 <= len(trace) <= loss_rle.MOST_PACKETS, 10)
+    for place, packet in enumerate(trace):
+        refuse_if(packet > 1, 9, place)
+    added, words = loss_rle.block_bytes(source, begin, trace), number_at(buffer, 2, 2) + 1
+    length = words - 1 + len(added) // 4
+    refuse_if(length > 65535, 17)
+    refuse_if(4 * (length + 1) > len(buffer), 8)
+    return buffer[:2] + struct.pack(">H", length) + buffer[4:4 * words] + added

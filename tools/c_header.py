@@ -8,7 +8,7 @@ import textwrap
 
 WIDTH = 120
 NUMBERS = {"u8": "uint8_t", "u16": "uint16_t", "u32": "uint32_t", "u64": "uint64_t", "usize": "size_t", "f32": "float"}
-KINDS = {"Measured": "MEASUREMENT", "Loss": "LOSS", "Discard": "DISCARD", "Effective": "EFFECTIVE", "Streams": "STREAMS"}
+KINDS = {"Rle": "RLE", "Measured": "MEASUREMENT", "Loss": "LOSS", "Discard": "DISCARD", "Effective": "EFFECTIVE", "Streams": "STREAMS"}
 MADE = "Made by tools/boundary.py from the Rattle source; not edited by hand."
 
 

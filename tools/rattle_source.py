@@ -7,7 +7,7 @@ import pathlib
 import re
 
 # The constants of crate block that number the reasons to drop a block.
-REASONS = ["BAD_SIZE", "BAD_FLAG", "BAD_RATE", "UNMEASURED"]
+REASONS = ["BAD_SIZE", "BAD_FLAG", "BAD_RATE", "UNMEASURED", "BAD_CHUNKS"]
 
 
 class Struct:
@@ -101,9 +101,11 @@ def _table(readme, head):
 
 def _places(fields, answers):
     """For each kind of block the names of its places at the boundary, from the definitions that the calls promise: its
-    fields in layout order, and where the packets covered are put among them, after the first few."""
+    fields in layout order, and where the packets covered are put among them, after the first few. Loss RLE has a definition
+    of its own, with the packets covered in their place."""
     kinds = re.findall(r"^fieldsOf \((\w+) \w+\) =\s*(.*?)\[\]$", fields, re.S | re.M)
     names = {kind: re.findall(r"\.«?(\w+)»? ∷", items) for kind, items in kinds}
     for kind, first in re.findall(r"^shownOf \((\w+) \w+\) = take (\d+) \(fieldsOf .*?\+\+ covered\b", answers, re.M):
         names[kind].insert(int(first), "packets")
-    return names
+    rle = re.search(r"^rleOut r = take \d+ \(\((.*?)\[\]\)", answers, re.M)[1].replace("covered (r .begin) (r .end)", ".packets")
+    return {"Rle": re.findall(r"\.(\w+) ∷", rle), **names}

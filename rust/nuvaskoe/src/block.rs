@@ -1,4 +1,4 @@
-//! One report block: the five kinds, and what reading a block comes to.
+//! One report block: the five kinds, Loss RLE, and what reading a block comes to.
 
 mod numbers;
 
@@ -105,18 +105,47 @@ impl TransportStream {
     }
 }
 
+/// A good block of type 1, Loss RLE: which packets of an interval were lost. It is none of the
+/// five kinds: [`crate::packet::add_rle`] writes one from a trace, and [`crate::packet::rle`]
+/// reads the trace out of it.
+#[derive(Debug, Clone, Copy, PartialEq, Eq)]
+pub struct LossRle {
+    /// The measured source.
+    pub source: u32,
+    /// First sequence number.
+    pub begin: u16,
+    /// Sequence number after the last.
+    pub end: u16,
+    /// How many packets of the interval were lost.
+    pub lost: u16,
+}
+
+impl LossRle {
+    /// The most packets of an interval.
+    pub const MOST_PACKETS: u16 = boundary::INTERVAL_MAX;
+
+    /// The packets of the interval: end minus begin modulo 65,536.
+    pub fn packets(&self) -> u16 {
+        self.end.wrapping_sub(self.begin)
+    }
+}
+
 /// Why a block is dropped: the first reason that applies.
 #[non_exhaustive]
 #[derive(Debug, Clone, Copy, PartialEq, Eq)]
 pub enum Reason {
-    /// D1: a listed type with another length.
+    /// D1: one of the five types with another length; a type 1 of fewer than two words, or not
+    /// of whole words.
     BadSize,
-    /// D2: interval flag 0.
+    /// D2: interval flag 0; of a type 1, a thinning other than 0.
     BadFlag,
     /// D3: a rate from 32,769 to 65,534.
     BadRate,
     /// D4: no measurement block for its source in the packet.
     Unmeasured,
+    /// D5: a type 1 on over 65,533 packets, or whose chunks cover too few, are null before the end
+    /// or not null behind it.
+    BadChunks,
 }
 
 /// What reading a block comes to.
@@ -125,18 +154,21 @@ pub enum Reason {
 pub enum Verdict {
     /// A block of one of the five kinds.
     Typed(Block),
+    /// A good block of type 1.
+    Rle(LossRle),
     /// A type that is not listed: its body is all there is.
     Unknown,
-    /// A listed type that cannot be used.
+    /// A listed type, or type 1, that cannot be used.
     Dropped(Reason),
 }
 
 impl Verdict {
-    /// The number that [`crate::packet::list`] writes: 0 for typed, 1 to 4 for the
-    /// reasons D1 to D4, 255 for unknown.
+    /// The number that [`crate::packet::list`] writes: 0 for typed, 1 to 5 for the
+    /// reasons D1 to D5, 254 for Loss RLE, 255 for unknown.
     pub fn number(&self) -> u32 {
         match self {
             Verdict::Typed(_) => boundary::VERDICT_TYPED,
+            Verdict::Rle(_) => boundary::VERDICT_RLE,
             Verdict::Unknown => boundary::VERDICT_UNKNOWN,
             Verdict::Dropped(reason) => reason.number(),
         }

@@ -8,9 +8,11 @@
 
 mod blocks;
 mod differences;
+mod rle;
 
 pub use blocks::{blocks, Blocks, PacketBlock};
 pub use differences::{compare, differences, Difference};
+pub use rle::{add_rle, rle, rle_trace};
 
 use crate::{
     block::{Block, Reading},

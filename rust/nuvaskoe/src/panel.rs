@@ -73,7 +73,7 @@ pub fn of_packet(packet: &[u8], index: usize) -> Panel {
 pub fn of_reading(reading: &Reading) -> Panel {
     match &reading.verdict {
         Verdict::Typed(block) => of_block(block),
-        Verdict::Unknown | Verdict::Dropped(_) => Panel::DARK,
+        Verdict::Rle(_) | Verdict::Unknown | Verdict::Dropped(_) => Panel::DARK,
     }
 }
 

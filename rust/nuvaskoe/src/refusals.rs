@@ -130,6 +130,7 @@ impl Reason {
         Reason::BadFlag,
         Reason::BadRate,
         Reason::Unmeasured,
+        Reason::BadChunks,
     ];
 
     /// The number in a listing, from 1.
@@ -139,6 +140,7 @@ impl Reason {
             Reason::BadFlag => 2,
             Reason::BadRate => 3,
             Reason::Unmeasured => 4,
+            Reason::BadChunks => 5,
         }
     }
 
@@ -151,9 +153,10 @@ impl Reason {
     pub fn meaning(self) -> &'static str {
         match self {
             Reason::BadSize => "its length is not that of its type",
-            Reason::BadFlag => "its interval flag is 0, which is reserved",
+            Reason::BadFlag => "its interval flag is 0, which is reserved, or the thinning of Loss RLE (1) is not 0",
             Reason::BadRate => "a rate is between 32,769 and 65,534, which no rate can be",
             Reason::Unmeasured => "no measurement block (14) for its source is in the packet, so its figures have no span",
+            Reason::BadChunks => "the chunks of Loss RLE (1) end before its packets do or go on behind them, or it is on over 65,533 packets",
         }
     }
 
@@ -161,9 +164,10 @@ impl Reason {
     pub fn advice(self) -> &'static str {
         match self {
             Reason::BadSize => "its sender lays this type out in another way: tell its maker",
-            Reason::BadFlag => "its sender must set the flag to 1, 2 or 3: tell its maker",
+            Reason::BadFlag => "its sender must set the flag to 1, 2 or 3, or report on every packet: tell its maker",
             Reason::BadRate => "take no figure of this block: its sender measures wrongly",
             Reason::Unmeasured => "its sender must put a block 14 for this source into the same packet",
+            Reason::BadChunks => "take no trace of this block: its sender writes it wrongly",
         }
     }
 }

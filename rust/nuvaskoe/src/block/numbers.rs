@@ -1,7 +1,8 @@
 //! Blocks and the numbers that the boundary has for them.
 
 use super::{
-    Block, Discard, Effective, Loss, Measurement, Reading, Reason, TransportStream, Verdict,
+    Block, Discard, Effective, Loss, LossRle, Measurement, Reading, Reason, TransportStream,
+    Verdict,
 };
 use crate::{
     boundary,
@@ -15,6 +16,7 @@ impl Reading {
             boundary::VERDICT_TYPED => {
                 Verdict::Typed(Block::new(answer.block_type, &answer.fields))
             }
+            boundary::VERDICT_RLE => Verdict::Rle(LossRle::new(&answer.fields)),
             without_fields => {
                 unused(&answer.fields);
                 match Reason::numbered(without_fields) {
@@ -114,6 +116,21 @@ impl TransportStream {
         };
         debug_assert_eq!(u32::from(stream.packets()), *packets);
         stream
+    }
+}
+
+impl LossRle {
+    fn new(fields: &Fields) -> LossRle {
+        let [source, begin, end, packets, lost, rest @ ..] = fields;
+        unused(rest);
+        let rle = LossRle {
+            source: *source,
+            begin: narrow(*begin),
+            end: narrow(*end),
+            lost: narrow(*lost),
+        };
+        debug_assert_eq!(u32::from(rle.packets()), *packets);
+        rle
     }
 }
 

@@ -25,8 +25,8 @@ pub enum Difference {
         /// The second packet's reading.
         second: u32,
     },
-    /// The whole of two blocks: of another type, typed in one packet alone, or unknown or
-    /// dropped in both and of other bytes.
+    /// The whole of two blocks: of another type, typed in one packet alone, or typed in
+    /// neither (unknown, dropped or of type 1) and of other bytes.
     Block {
         /// The blocks' number, from 0.
         block: usize,
