@@ -1,4 +1,7 @@
-//! "The packet": one block by itself, from its type, type-specific byte and body.
+//! "The packet": one block by itself, from its type, type-specific byte and body. Type 1 is
+//! document 02's ticket 5.
+
+use crate::rle;
 
 /// A block of one of the five listed types.
 #[derive(Debug, Clone, Copy, PartialEq, Eq)]
@@ -68,39 +71,63 @@ impl TransportStream {
     }
 }
 
+/// A good block of type 1, "outside the rules for typed blocks".
+#[derive(Debug, Clone, Copy, PartialEq, Eq)]
+pub struct LossRle {
+    pub source: u32,
+    pub begin: u16,
+    pub end: u16,
+    /// How many packets of the interval are lost.
+    pub lost: u16,
+}
+
+impl LossRle {
+    /// "The interval is end minus begin modulo 65,536, which may be 0."
+    pub fn packets(&self) -> u16 {
+        self.end.wrapping_sub(self.begin)
+    }
+}
+
 /// Why a block is dropped; the first that applies.
 #[derive(Debug, Clone, Copy, PartialEq, Eq, PartialOrd, Ord)]
 pub enum Reason {
-    /// a listed type with another length
+    /// a listed type with another length; a type 1 of "fewer than two words, or not whole words"
     D1 = 1,
-    /// flag 0
+    /// flag 0; in a type 1, thinning not 0
     D2 = 2,
     /// a rate from 32,769 to 65,534
     D3 = 3,
     /// a 17 or 18 with no well-sized block 14 for the same source in the packet
     D4 = 4,
+    /// "an interval over 65,533, a null chunk before the end, chunks cover too little, or a chunk
+    /// other than null follows the end"
+    D5 = 5,
 }
 
-/// The three kinds of answer to asking for a block.
+/// The four kinds of answer to asking for a block.
 #[derive(Debug, Clone, Copy, PartialEq, Eq)]
 pub enum Reading {
     Typed(Block),
     Unknown,
     Dropped(Reason),
+    Rle(LossRle),
 }
 
 impl Reading {
-    /// The boundary's number: 0 for typed, the reason's own, 255 for unknown.
+    /// The boundary's number: 0 for typed, the reason's own, 254 for a good type 1, 255 for
+    /// unknown.
     pub fn verdict(&self) -> u32 {
         match self {
             Reading::Typed(_) => 0,
             Reading::Dropped(reason) => *reason as u32,
+            Reading::Rle(_) => 254,
             Reading::Unknown => 255,
         }
     }
 }
 
-/// "Words after the first (block length)" of a listed type.
+/// "Words after the first (block length)" of a listed type, which type 1 with its many lengths
+/// is not.
 pub fn words(block_type: u8) -> Option<usize> {
     match block_type {
         14 => Some(7),
@@ -114,6 +141,12 @@ pub fn words(block_type: u8) -> Option<usize> {
 
 /// Reads one block by itself, which never gives D4.
 pub fn read(block_type: u8, specific: u8, body: &[u8]) -> Reading {
+    if block_type == 1 {
+        return match loss_rle(specific, body) {
+            Ok(rle) => Reading::Rle(rle),
+            Err(reason) => Reading::Dropped(reason),
+        };
+    }
     let Some(words) = words(block_type) else {
         return Reading::Unknown;
     };
@@ -141,6 +174,31 @@ pub fn read(block_type: u8, specific: u8, body: &[u8]) -> Reading {
 /// "Rates are 0 to 32,768, or 65,535 for unavailable."
 pub(crate) fn is_rate(number: u16) -> bool {
     number <= 32_768 || number == 65_535
+}
+
+/// A block of type 1, or why it is dropped.
+fn loss_rle(specific: u8, body: &[u8]) -> Result<LossRle, Reason> {
+    if body.len() < 8 || body.len() & 0b11 != 0 {
+        return Err(Reason::D1);
+    }
+    // The low four bits are the thinning, the high four reserved.
+    if specific & 0x0F != 0 {
+        return Err(Reason::D2);
+    }
+    let mut rle = LossRle {
+        source: word(body, 0),
+        begin: half(body, 4),
+        end: half(body, 6),
+        lost: 0,
+    };
+    let packets = usize::from(rle.packets());
+    if packets > rle::MOST_PACKETS {
+        return Err(Reason::D5);
+    }
+    let lost = rle::count(&body[8..], packets).ok_or(Reason::D5)?;
+    // No more than the packets, which 16 bits hold.
+    rle.lost = lost as u16;
+    Ok(rle)
 }
 
 fn measurement(body: &[u8]) -> Measurement {

@@ -13,7 +13,7 @@ type Entry = [u32; 5];
 const SENDER: u32 = 0;
 const FIELD: u32 = 1;
 /// "another type, typed against dropped, or unknown or dropped with other bytes, header
-/// included"
+/// included"; and, by ticket 5, a type 1 with other bytes, good or dropped
 const WHOLE: u32 = 2;
 const ONLY_FIRST: u32 = 3;
 const ONLY_SECOND: u32 = 4;
@@ -116,7 +116,7 @@ impl<'a> Pair<'a> {
                 transport_stream(other),
                 each,
             ),
-            // Both unknown, or both D1.
+            // Both unknown, both D1, or both of type 1, which its own bytes settle.
             _ if block == other => {}
             _ => each(whole(WHOLE, index)),
         }

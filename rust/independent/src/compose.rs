@@ -21,13 +21,27 @@ pub fn new_packet(sender: u32, buffer: &mut [u8]) -> Result<usize, Refusal> {
 /// in bytes. "Only the length field and the new bytes change."
 /// Refusals in order: the packet's own, then 16, 17, 8.
 pub fn add(buffer: &mut [u8], block: &Block) -> Result<usize, Refusal> {
-    let size = packet::size(buffer, |size| 8 <= size && size <= buffer.len())?;
-    packet::read(&buffer[..size])?;
+    let size = held(buffer)?;
     if !writable(block) {
         return Err(Refusal::BLOCK_TO_WRITE);
     }
     let bytes = framed(block);
-    let new_size = size + bytes.len();
+    let new_size = grow(buffer, size, bytes.len())?;
+    buffer[size..new_size].copy_from_slice(&bytes);
+    Ok(new_size)
+}
+
+/// The size of the packet at the front of `buffer`. Refusals: the packet's own.
+pub(crate) fn held(buffer: &[u8]) -> Result<usize, Refusal> {
+    let size = packet::size(buffer, |size| 8 <= size && size <= buffer.len())?;
+    packet::read(&buffer[..size])?;
+    Ok(size)
+}
+
+/// Sets the length field of a packet of `size` bytes for a block of `added` bytes after it, and
+/// answers the new size. Refusals in order: 17, 8.
+pub(crate) fn grow(buffer: &mut [u8], size: usize, added: usize) -> Result<usize, Refusal> {
+    let new_size = size + added;
     let Ok(length) = u16::try_from(new_size / 4 - 1) else {
         return Err(Refusal::PACKET_FULL);
     };
@@ -35,7 +49,6 @@ pub fn add(buffer: &mut [u8], block: &Block) -> Result<usize, Refusal> {
         return Err(Refusal::BUFFER_SHORT);
     }
     buffer[2..4].copy_from_slice(&length.to_be_bytes());
-    buffer[size..new_size].copy_from_slice(&bytes);
     Ok(new_size)
 }
 

@@ -1,11 +1,12 @@
 //! A plain second implementation of document 01, written from that document alone, but for
 //! `late_tally`, a model of what the document leaves free, `compare`, document 02's ticket 1,
-//! `panel`, document 02's ticket 4, and document 02's ticket 3, which `burst` follows in the
-//! variance and `tally` in the last line of soundness. It shares no code with what it checks,
-//! and prefers the documents' own words to speed: where the two disagree, one of them misreads
-//! a document.
+//! `panel`, document 02's ticket 4, `rle`, document 02's ticket 5, which `block` follows in type 1,
+//! and document 02's ticket 3, which `burst` follows in the variance and `tally` in the last line
+//! of soundness. It shares no code with what it checks, and prefers the documents' own words to
+//! speed: where the two disagree, one of them misreads a document.
 //! `compare` is written for speed, with shortcuts: its plain form is tests/document02.py, to which
-//! tests/cases.py holds the library by cases/compare.txt.
+//! tests/cases.py holds the library by cases/compare.txt. So is `rle`: its plain form, packet by
+//! packet, is in its tests.
 #![forbid(unsafe_code)]
 
 pub mod block;
@@ -19,6 +20,7 @@ pub mod packet;
 pub mod panel;
 pub mod refusal;
 pub mod resend;
+pub mod rle;
 pub mod summary;
 pub mod tally;
 pub mod trace;

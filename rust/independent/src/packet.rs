@@ -174,7 +174,7 @@ fn frames(packet: &[u8]) -> impl Iterator<Item = Result<Frame, Refusal>> + '_ {
 }
 
 /// Block `index`, after the whole packet is judged: 6 comes before 7.
-fn find(packet: &[u8], index: usize) -> Result<Frame, Refusal> {
+pub(crate) fn find(packet: &[u8], index: usize) -> Result<Frame, Refusal> {
     sender(packet)?;
     let mut found = None;
     for (place, frame) in frames(packet).enumerate() {

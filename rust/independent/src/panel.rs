@@ -47,7 +47,7 @@ pub fn of_reading(reading: &Reading) -> Panel {
     match reading {
         // Judged again: a caller may have made it by hand.
         Reading::Typed(block) => of_block(block),
-        Reading::Unknown | Reading::Dropped(_) => Panel::DARK,
+        Reading::Unknown | Reading::Dropped(_) | Reading::Rle(_) => Panel::DARK,
     }
 }
 

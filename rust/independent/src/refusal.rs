@@ -18,11 +18,12 @@ impl Refusal {
     pub const PACKET_LENGTH: Refusal = Refusal::without_place(4);
     /// padding bit set
     pub const PADDING: Refusal = Refusal::without_place(5);
-    /// no block with that index
+    /// no block with that index; reading out, also one that is not a good type 1
     pub const NO_SUCH_BLOCK: Refusal = Refusal::without_place(7);
     /// buffer shorter than the result needs
     pub const BUFFER_SHORT: Refusal = Refusal::without_place(8);
-    /// trace empty or over 65,536; a tally at 65,536 given one more
+    /// trace empty or over 65,536; a tally at 65,536 given one more; a trace to write as type 1
+    /// over 65,533
     pub const TRACE_LENGTH: Refusal = Refusal::without_place(10);
     /// card not 20 digits
     pub const CARD_DIGITS: Refusal = Refusal::without_place(11);
@@ -47,8 +48,8 @@ impl Refusal {
         }
     }
 
-    /// trace byte above 2, or such a byte given to a tally; its place is the first bad
-    /// byte's index in a trace
+    /// trace byte above 2, or such a byte given to a tally; above 1 in a trace to write as
+    /// type 1; its place is the first bad byte's index in a trace
     pub const fn trace_byte(index: usize) -> Refusal {
         Refusal {
             number: 9,

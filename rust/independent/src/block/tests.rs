@@ -112,11 +112,59 @@ fn another_size_is_d1() {
 
 #[test]
 fn unlisted_types_are_unknown() {
-    for block_type in (0..=255).filter(|block_type| !LISTED.contains(block_type)) {
+    let unlisted = |block_type: &u8| *block_type != 1 && !LISTED.contains(block_type);
+    for block_type in (0..=255).filter(unlisted) {
         for length in [0, 1, 8, 12, 28, 44] {
             let answer = read(block_type, 0, &vec![0xFF; length]);
             assert_eq!(answer, Reading::Unknown, "type {block_type}");
         }
+    }
+}
+
+/// Its chunks are for the tests of `rle`.
+#[test]
+fn type_1_is_a_kind_of_its_own() {
+    let mut body = vec![1, 2, 3, 4, 5, 6, 5, 9];
+    // A run of two lost packets, then one of received ones past the end.
+    body.extend([0x00, 0x02, 0x40, 0x09]);
+    let rle = LossRle {
+        source: 0x0102_0304,
+        begin: 0x0506,
+        end: 0x0509,
+        lost: 2,
+    };
+    assert_eq!(read(1, 0, &body), Reading::Rle(rle));
+    assert_eq!(rle.packets(), 3);
+    assert_eq!(words(1), None);
+    assert_eq!(read(1, 0, &body[..7]), Reading::Dropped(Reason::D1));
+    assert_eq!(read(1, 1, &body), Reading::Dropped(Reason::D2));
+    assert_eq!(read(1, 0, &body[..8]), Reading::Dropped(Reason::D5));
+}
+
+#[test]
+fn verdicts() {
+    let effective = Effective {
+        source: 0,
+        index: 0,
+    };
+    let rle = LossRle {
+        source: 0,
+        begin: 0,
+        end: 0,
+        lost: 0,
+    };
+    let table = [
+        (Reading::Typed(Block::Effective(effective)), 0),
+        (Reading::Dropped(Reason::D1), 1),
+        (Reading::Dropped(Reason::D2), 2),
+        (Reading::Dropped(Reason::D3), 3),
+        (Reading::Dropped(Reason::D4), 4),
+        (Reading::Dropped(Reason::D5), 5),
+        (Reading::Rle(rle), 254),
+        (Reading::Unknown, 255),
+    ];
+    for (reading, verdict) in table {
+        assert_eq!(reading.verdict(), verdict);
     }
 }
 

@@ -60,7 +60,7 @@ fn holding(words: u16, length: usize) -> Vec<u8> {
     new_packet(1, &mut buffer).unwrap();
     buffer[2..4].copy_from_slice(&(1 + words).to_be_bytes());
     if words > 0 {
-        buffer[8..10].copy_from_slice(&[1, 0]);
+        buffer[8..10].copy_from_slice(&[2, 0]);
         buffer[10..12].copy_from_slice(&(words - 1).to_be_bytes());
     }
     buffer

@@ -1,5 +1,5 @@
 use super::*;
-use crate::block::Effective;
+use crate::block::{Effective, LossRle};
 
 const P12: [u8; 20] = [
     0x80, 0xCF, 0x00, 0x04, 0x00, 0x00, 0x00, 0x01, 0xF0, 0x00, 0x00, 0x02, 0x00, 0x00, 0x00, 0x02,
@@ -200,9 +200,9 @@ fn the_largest_packet() {
 
 #[test]
 fn indices_past_the_last_block() {
-    let bytes = packet(&vec![zeros(1, 0, 0); 5]);
+    let bytes = packet(&vec![zeros(2, 0, 0); 5]);
     for index in 0..5 {
-        assert_eq!(block(&bytes, index), Ok((1, Reading::Unknown)));
+        assert_eq!(block(&bytes, index), Ok((2, Reading::Unknown)));
     }
     for index in [5, 6, usize::MAX] {
         assert_eq!(block(&bytes, index), Err(Refusal::NO_SUCH_BLOCK));
@@ -214,7 +214,7 @@ fn indices_past_the_last_block() {
 fn a_measurement_before_or_after() {
     for block_type in [17, 18] {
         let (asked, measurement) = (sourced(block_type, 5), sourced(14, 5));
-        let other = zeros(1, 0, 2);
+        let other = zeros(2, 0, 2);
         let after = packet(&[asked.clone(), other.clone(), measurement.clone()]);
         assert_eq!(verdicts(&after), [0, 255, 0]);
         let before = packet(&[measurement, other, asked]);
@@ -235,9 +235,12 @@ fn no_measurement_is_d4() {
             let wrong_size = packet(&[sized.clone(), asked.clone(), sized]);
             assert_eq!(verdicts(&wrong_size), [1, 4, 1]);
         }
-        // Neither 17, 18, 240 nor 241 stands in for block 14.
+        // Neither 17, 18, 240, 241 nor a type 1 stands in for block 14.
         let others = [17, 18, 240, 241].map(|block_type| sourced(block_type, 5));
-        assert_eq!(verdicts(&packet(&others)), [4, 4, 0, 0]);
+        let mut blocks = others.to_vec();
+        blocks.push(zeros(1, 0, 7));
+        blocks[4][7] = 5;
+        assert_eq!(verdicts(&packet(&blocks)), [4, 4, 0, 0, 254]);
     }
 }
 
@@ -260,12 +263,40 @@ fn d4_comes_last() {
     }
 }
 
+/// A good type 1, then D1, D2 and D5: a block 14 for its source changes nothing.
+#[test]
+fn type_1() {
+    let mut blocks = [
+        zeros(1, 0xF0, 2),
+        zeros(1, 0, 0),
+        zeros(1, 0, 1),
+        zeros(1, 0x0F, 2),
+        zeros(1, 0, 3),
+    ];
+    // The last has one packet and nulls alone.
+    blocks[4][11] = 1;
+    let bytes = packet(&blocks);
+    assert_eq!(verdicts(&bytes), [254, 1, 1, 2, 5]);
+    let rle = LossRle {
+        source: 0,
+        begin: 0,
+        end: 0,
+        lost: 0,
+    };
+    assert_eq!(block(&bytes, 0), Ok((1, Reading::Rle(rle))));
+    assert_eq!(body(&bytes, 0), &bytes[12..20]);
+    assert_eq!(body(&bytes, 4), &bytes[bytes.len() - 12..]);
+    let measured = packet(&[blocks.concat(), sourced(14, 0)]);
+    assert_eq!(verdicts(&measured), [254, 1, 1, 2, 5, 0]);
+}
+
 #[test]
 fn all_ways_agree() {
     let kinds = [14, 17, 18, 240, 241];
     let mut blocks: Vec<_> = kinds.iter().map(|kind| sourced(*kind, 5)).collect();
     blocks.extend(kinds.iter().map(|kind| sourced(*kind, 6)));
     blocks.extend((0..9).map(|words| zeros(14 + words as u8, 0, words)));
+    blocks.extend((0..4).map(|words| zeros(1, 0, words)));
     blocks.remove(5);
     let bytes = packet(&blocks);
     let (judged, listed) = (judge(&bytes).unwrap(), list(&bytes).unwrap());
@@ -293,7 +324,7 @@ fn sources_that_have_a_measurement() {
 
 #[test]
 fn a_list_needs_two_numbers_a_block() {
-    let bytes = packet(&[sourced(17, 5), zeros(1, 0, 0)]);
+    let bytes = packet(&[sourced(17, 5), zeros(2, 0, 0)]);
     for length in 0..=6 {
         let mut out = vec![7; length];
         let answer = list_into(&bytes, &mut out);

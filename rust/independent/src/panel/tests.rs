@@ -1,5 +1,5 @@
 use super::*;
-use crate::block::{Discard, Loss, Reason};
+use crate::block::{Discard, Loss, LossRle, Reason};
 use crate::compose;
 use crate::refusal::Refusal;
 
@@ -107,15 +107,23 @@ fn the_lamp() {
 #[test]
 fn answers_without_a_block_are_dark() {
     assert_eq!(of_reading(&Reading::Unknown), Panel::DARK);
-    for reason in [Reason::D1, Reason::D2, Reason::D3, Reason::D4] {
+    for reason in [Reason::D1, Reason::D2, Reason::D3, Reason::D4, Reason::D5] {
         assert_eq!(of_reading(&Reading::Dropped(reason)), Panel::DARK);
     }
+    let rle = LossRle {
+        source: 5,
+        begin: 0,
+        end: 100,
+        lost: 50,
+    };
+    assert_eq!(of_reading(&Reading::Rle(rle)), Panel::DARK);
 }
 
-/// Two blocks to show, then D1 to D4, unknown, the other types, and indices past the end.
+/// Two blocks to show, then D1 to D4, unknown, the other types, a type 1, good and D5, and
+/// indices past the end.
 #[test]
 fn in_a_packet() {
-    let blocks: [&[u32]; 10] = [
+    let blocks: [&[u32]; 12] = [
         &[0x1140_0003, 5, 0x4000_FFFF, 0],
         &[0x12C0_0002, 5, 0xFFFF_0000],
         &[0x1140_0002, 5, 0x4000_4000],
@@ -126,15 +134,17 @@ fn in_a_packet() {
         &[0xF040_0002, 5, 0x4000_4000],
         &[0xF140_000B, 5, 0x4000_4000, 0, 0, 0, 0, 0, 0, 0, 0, 0],
         &[0x0E40_0007, 5, 0x4000_4000, 0, 0, 0, 0, 0],
+        &[0x0140_0002, 5, 0x4000_4000],
+        &[0x0140_0002, 5, 0x4000_4001],
     ];
-    let words = [&[0x80CF_002F, 1], &blocks.concat()[..]].concat();
+    let words = [&[0x80CF_0035, 1], &blocks.concat()[..]].concat();
     let packet: Vec<u8> = words.iter().flat_map(|word| word.to_be_bytes()).collect();
     let listed = packet::list(&packet).unwrap();
     let verdicts: Vec<u32> = listed.into_iter().map(|(_, verdict)| verdict).collect();
-    assert_eq!(verdicts, [0, 0, 1, 2, 3, 4, 255, 0, 0, 0]);
+    assert_eq!(verdicts, [0, 0, 1, 2, 3, 4, 255, 0, 0, 0, 254, 5]);
     assert_eq!(of_packet(&packet, 0), check(1, 16_384, 65_535));
     assert_eq!(of_packet(&packet, 1), check(3, 65_535, 0));
-    for index in [2, 3, 4, 5, 6, 7, 8, 9, 10, usize::MAX] {
+    for index in (2..14).chain([usize::MAX]) {
         assert_eq!(of_packet(&packet, index), Panel::DARK, "{index}");
     }
     // Refusals 1 to 6, the last for the block after the one asked for.

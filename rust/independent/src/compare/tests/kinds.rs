@@ -148,7 +148,7 @@ fn reserved_bits_beside_fields() {
 #[test]
 fn another_type() {
     let mut blocks: Vec<_> = [14, 17, 18, 240, 241].map(|kind| sourced(kind, 5)).into();
-    // Unknown ones.
+    // Unknown ones, and one of type 1.
     blocks.extend([block(99, 0, &[5, 0]), block(1, 0, &[5, 0])]);
     blocks.extend([block(15, 0, &[]), block(16, 0x40, &[5])]);
     for (place, first) in blocks.iter().enumerate() {
@@ -160,7 +160,7 @@ fn another_type() {
     }
     // 18 and 240, unknown and unknown: all but the type is the same.
     assert_eq!(of_pair(&sourced(18, 5), &sourced(240, 5)), WHOLE_0);
-    assert_eq!(of_pair(&block(1, 2, &[3]), &block(2, 2, &[3])), WHOLE_0);
+    assert_eq!(of_pair(&block(2, 2, &[3]), &block(3, 2, &[3])), WHOLE_0);
 }
 
 /// A typed block and one of its type that is dropped, whatever the reason.
@@ -261,7 +261,7 @@ fn dropped_in_both() {
 
 #[test]
 fn unknown_in_both() {
-    for block_type in [0, 1, 13, 15, 16, 19, 239, 242, 255] {
+    for block_type in [0, 2, 13, 15, 16, 19, 239, 242, 255] {
         for words in [0, 1, 2, 3, 7, 11, 100] {
             let unknown = block(block_type, 9, &vec![0x0102_0304; words]);
             assert!(of_pair(&unknown, &unknown).is_empty());
@@ -270,6 +270,39 @@ fn unknown_in_both() {
             }
             let longer = block(block_type, 9, &vec![0x0102_0304; words + 1]);
             assert_eq!(of_pair(&unknown, &longer), WHOLE_0);
+        }
+    }
+}
+
+/// Good or dropped, a type 1 has no fields: any other byte is a whole block that differs, also
+/// where both are good and say the same.
+#[test]
+fn type_1_by_bytes() {
+    let blocks = [
+        block(1, 0, &[5, 0x0001_0004, 0x0001_4002]),
+        // The same by a vector and a null, by other reserved bits, and with more nulls.
+        block(1, 0, &[5, 0x0001_0004, 0xB000_0000]),
+        block(1, 0x80, &[5, 0x0001_0004, 0x0001_4002]),
+        block(1, 0, &[5, 0x0001_0004, 0x0001_4002, 0]),
+        // Another source, and no packets.
+        block(1, 0, &[6, 0x0001_0004, 0x0001_4002]),
+        block(1, 0, &[5, 0x0001_0001]),
+        // D1, D2 and D5.
+        block(1, 0, &[5]),
+        block(1, 0x01, &[5, 0x0001_0004, 0x0001_4002]),
+        block(1, 0, &[5, 0x0001_0004, 0x0001_4001]),
+    ];
+    let listed = packet::list(&report(1, &blocks)).unwrap();
+    let verdicts: Vec<u32> = listed.into_iter().map(|(_, verdict)| verdict).collect();
+    assert_eq!(verdicts, [254, 254, 254, 254, 254, 254, 1, 2, 5]);
+    for (place, first) in blocks.iter().enumerate() {
+        for (other_place, second) in blocks.iter().enumerate() {
+            let found = of_pair(first, second);
+            assert_eq!(found.is_empty(), place == other_place);
+            assert!(place == other_place || found == WHOLE_0);
+        }
+        for offset in (1..2).chain(4..first.len()) {
+            assert_eq!(of_pair(first, &turned(first, offset, 0x80)), WHOLE_0);
         }
     }
 }
