@@ -29,6 +29,10 @@ fn every_type_and_size() {
             for flag in 0..4 {
                 let reading = alone_both(block_type, flag << 6, &body);
                 match listed_words(block_type) {
+                    None if block_type == 1 => {
+                        let sized = length >= 8 && length % 4 == 0;
+                        assert_eq!(sized, reading != Reading::Dropped(Reason::D1));
+                    }
                     None => assert_eq!(reading, Reading::Unknown),
                     Some(words) if 4 * words != length => {
                         assert_eq!(reading, Reading::Dropped(Reason::D1));

@@ -6,6 +6,7 @@ mod support;
 use std::{collections::BTreeSet, ops::Range};
 use support::{
     differences::{lawful_entries, Entry},
+    drawn_runs::rle_block,
     from_env,
     packets::{all_kinds, block, listed, packet, sourced, LISTED, P12},
     pairs::{good_pair, RESERVED},
@@ -182,7 +183,7 @@ fn reserved_bits() {
 }
 
 /// The type-specific byte of an unknown or dropped block has no reserved bits: "other bytes,
-/// header included".
+/// header included". So is a good type 1 compared, its bits past the end too.
 #[test]
 fn bytes_of_blocks_that_are_not_typed() {
     let mut bad_rate = listed(18, 5);
@@ -197,6 +198,9 @@ fn bytes_of_blocks_that_are_not_typed() {
         bad_rate,
         listed(17, 5),
         listed(18, 5),
+        rle_block(5, 7, 3, &[0xD000]),
+        rle_block(5, 7, 30, &[0xFFFF]),
+        block(1, 0, &[]),
     ];
     for sample in samples.map(|bytes| [bytes]) {
         assert_eq!(of_blocks(&sample, &sample), Vec::<Entry>::new());
@@ -216,7 +220,7 @@ fn bytes_of_blocks_that_are_not_typed() {
 /// Two types, whatever they come to, are one difference, also where all else is the same.
 #[test]
 fn another_type() {
-    let types = [14, 17, 18, 240, 241, 0, 9, 255];
+    let types = [1, 14, 17, 18, 240, 241, 0, 9, 255];
     for (one, other) in types
         .iter()
         .flat_map(|one| types.map(|other| (*one, other)))

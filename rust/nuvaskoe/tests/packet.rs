@@ -56,7 +56,9 @@ fn random_packets() {
     }
     let both = |block_type| (0..=4).map(move |verdict| (block_type, verdict));
     let others = [14, 240, 241].into_iter().flat_map(|t| [(t, 0), (t, 1)]);
-    for pair in both(17).chain(both(18)).chain(others).chain([(13, 255)]) {
+    let runs = [1, 2, 5, 254].into_iter().map(|verdict| (1, verdict));
+    let others = others.chain(runs).chain([(13, 255)]);
+    for pair in both(17).chain(both(18)).chain(others) {
         assert!(
             seen.contains(&pair) || !drawn_enough(),
             "no block drawn with {pair:?}"

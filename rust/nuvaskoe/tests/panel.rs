@@ -3,7 +3,7 @@
 mod support;
 
 use independent::{
-    block::{Block, Reading, Reason},
+    block::{Block, LossRle, Reading, Reason},
     panel::{Needle, Panel},
 };
 use support::{
@@ -68,10 +68,17 @@ fn other_kinds_are_dark() {
 }
 
 #[test]
-fn unknown_and_dropped_are_dark() {
-    let reasons = [Reason::D1, Reason::D2, Reason::D3, Reason::D4];
+fn unknown_dropped_and_loss_rle_are_dark() {
+    let reasons = [Reason::D1, Reason::D2, Reason::D3, Reason::D4, Reason::D5];
     let answers = reasons.map(Reading::Dropped).into_iter();
-    for answer in answers.chain([Reading::Unknown]) {
+    // Its fields are those of a good 17 or 18.
+    let rle = Reading::Rle(LossRle {
+        source: 1,
+        begin: 5,
+        end: 8_192,
+        lost: 0,
+    });
+    for answer in answers.chain([Reading::Unknown, rle]) {
         for block_type in 0..=255 {
             let block = block_answer(&Ok((block_type, answer)));
             assert_eq!(of_read_both(&block), Panel::DARK, "{block:?}");

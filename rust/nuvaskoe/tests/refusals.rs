@@ -13,8 +13,8 @@ fn words() {
     assert!(!meanings.contains("") && !advice.contains(""));
     let meanings: BTreeSet<_> = Reason::ALL.iter().map(|r| r.meaning()).collect();
     let advice: BTreeSet<_> = Reason::ALL.iter().map(|r| r.advice()).collect();
-    assert!(meanings.len() == 4 && !meanings.contains(""));
-    assert!(advice.len() == 4 && !advice.contains(""));
+    assert!(meanings.len() == 5 && !meanings.contains(""));
+    assert!(advice.len() == 5 && !advice.contains(""));
 }
 
 #[test]
@@ -27,19 +27,21 @@ fn numbers() {
     for number in [0, none, 255, 256, 257, u32::MAX] {
         assert_eq!(RefusalKind::numbered(number), None, "{number}");
     }
-    // D1 to D4.
+    // D1 to D5.
     let reasons = [
         Reason::BadSize,
         Reason::BadFlag,
         Reason::BadRate,
         Reason::Unmeasured,
+        Reason::BadChunks,
     ];
     assert_eq!(Reason::ALL, reasons);
     for (place, reason) in reasons.iter().enumerate() {
         assert_eq!(reason.number() as usize, place + 1);
         assert_eq!(Reason::numbered(reason.number()), Some(*reason));
     }
-    for number in [0, 5, 255, u32::MAX] {
+    // 254 and 255 are verdicts, but no reasons.
+    for number in [0, 6, 254, 255, u32::MAX] {
         assert_eq!(Reason::numbered(number), None, "{number}");
     }
 }

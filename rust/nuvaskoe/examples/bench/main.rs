@@ -16,6 +16,8 @@
 //!   with room that is always enough;
 //! - writing: `new` writes a packet without blocks, `add` adds one block to the packet named,
 //!   and `make` makes the packet named from a new one, by adding one block after the other;
+//! - Loss RLE on 65,533 packets: `count` reads a block of such chunks by itself, which counts its
+//!   lost packets, `out` reads its trace out of a packet, and `add` adds a trace as such a block;
 //! - traces, a byte a packet: `figs` gives the burst figures, `plan` the resend plan and
 //!   `loss` effective loss; in rows "B x by B y" both times are ours, with batches of x and y;
 //! - tallies: `open`, `take` one packet and `close`, after as many packets as there are bytes
@@ -32,6 +34,7 @@ mod comparing;
 mod measuring;
 mod panels;
 mod reading;
+mod runs;
 mod tallies;
 mod writing;
 
@@ -87,6 +90,7 @@ fn main() {
     reading::time();
     comparing::time();
     writing::time();
+    runs::time();
     let traces = measuring::traces();
     measuring::time(&traces);
     tallies::time(&traces);

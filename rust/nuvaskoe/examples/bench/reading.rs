@@ -43,7 +43,7 @@ fn cases() -> Vec<Case> {
 /// A packet of `length` bytes: empty unknown blocks where `blocks` leave room, then those.
 pub fn filled(length: usize, blocks: Vec<Vec<u8>>) -> Vec<u8> {
     let used: usize = blocks.iter().map(Vec::len).sum();
-    let mut all = vec![block(1, 0, &[]); (length - 8 - used) / 4];
+    let mut all = vec![block(2, 0, &[]); (length - 8 - used) / 4];
     all.extend(blocks);
     let packet = packet(1, &all);
     assert_eq!(packet.len(), length);

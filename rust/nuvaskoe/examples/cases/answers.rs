@@ -35,6 +35,8 @@ pub fn answer(case: &Case) -> Option<String> {
             shown::panel(&panel::of_reading(&block::read(block_type, specific, data)))
         }
         "panel17" | "panel18" => shown::panel(&panel::of_block(&given(case.word, n)?)),
+        "rle" => read_out(n[0], n[1], data),
+        "add1" => adding_trace(n, data)?,
         "new" => lending(n[1], |lent| packet::new(n[0], lent)),
         "card" => shown::or_refused(card::read(data), |set| {
             let (gmin, batch, threshold) = (set.gmin, set.batch, set.threshold);
@@ -78,6 +80,21 @@ fn list(entries: u32, packet: &[u8]) -> String {
     let mut lent = vec![u32::from(HELD); entries as usize];
     let answer = packet::list(packet, &mut lent);
     shown::or_refused(answer, |written| format!("entries {written}")) + &shown::table(&lent)
+}
+
+fn read_out(index: u32, room: u32, packet: &[u8]) -> String {
+    let mut lent = vec![HELD; room as usize];
+    let answer = packet::rle(packet, index as usize, &mut lent);
+    shown::or_refused(answer, |packets| format!("packets {packets}")) + &shown::trace(&lent)
+}
+
+/// A trace added to the packet at the front of the data before it.
+fn adding_trace(n: &[u32], data: &[u8]) -> Option<String> {
+    let (source, begin) = (n[0], u16::try_from(n[1]).ok()?);
+    let (buffer, trace) = data.split_at(n[2] as usize);
+    let mut buffer = buffer.to_vec();
+    let answer = packet::add_rle(&mut buffer, source, begin, trace);
+    Some(shown::or_refused(answer, |size| format!("size {size}")) + &shown::bytes(&buffer))
 }
 
 fn compare(numbers: u32, (first, second): (&[u8], &[u8])) -> String {

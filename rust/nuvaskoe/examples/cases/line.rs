@@ -4,18 +4,19 @@
 const MOST: u32 = 262_144;
 
 /// What follows the numbers. The last number is the size of bytes and of a trace; the last two
-/// are those of two packets, which a space parts.
+/// are those of two packets, or of bytes and a trace, which a space parts.
 #[derive(Clone, Copy, PartialEq)]
 enum Data {
     Nothing,
     Bytes,
     Pair,
+    BytesAndTrace,
     Trace,
     Text,
 }
 
 /// Each word, how many numbers it takes, which of them are sizes, and its data.
-const WORDS: [(&str, usize, &[usize], Data); 27] = [
+const WORDS: [(&str, usize, &[usize], Data); 29] = [
     ("read", 1, &[0], Data::Bytes),
     ("block", 2, &[1], Data::Bytes),
     ("body", 2, &[1], Data::Bytes),
@@ -32,6 +33,8 @@ const WORDS: [(&str, usize, &[usize], Data); 27] = [
     ("add18", 5, &[4], Data::Bytes),
     ("add240", 3, &[2], Data::Bytes),
     ("add241", 13, &[12], Data::Bytes),
+    ("add1", 4, &[2, 3], Data::BytesAndTrace),
+    ("rle", 3, &[1, 2], Data::Bytes),
     ("card", 0, &[], Data::Text),
     ("write", 5, &[4], Data::Nothing),
     ("figures", 4, &[3], Data::Trace),
@@ -78,6 +81,11 @@ impl Case {
                 let (first, second) = two(text)?;
                 let (first, second) = (hexadecimal(first)?, hexadecimal(second)?);
                 [sized(first, *size)?, sized(second, *other)?].concat()
+            }
+            (Data::BytesAndTrace, [.., size, packets]) => {
+                let (bytes, packet) = two(text)?;
+                let (bytes, packet) = (hexadecimal(bytes)?, trace(packet)?);
+                [sized(bytes, *size)?, sized(packet, *packets)?].concat()
             }
             _ => text.to_vec(),
         };

@@ -5,7 +5,7 @@ use nuvaskoe::figures::Figures;
 use nuvaskoe::panel::{Needle, Panel};
 use nuvaskoe::Refusal;
 
-/// The most bytes or marks, the most entries, and the most numbers of differences, that are shown.
+/// The most bytes, marks or packets, the most entries, and the most numbers of differences, that are shown.
 const BYTES: usize = 64;
 const ENTRIES: usize = 16;
 const NUMBERS: usize = 100;
@@ -26,6 +26,11 @@ pub fn bytes(lent: &[u8]) -> String {
 pub fn plan(lent: &[u8]) -> String {
     let front = lent.iter().take(BYTES);
     labelled("plan", front.map(u8::to_string).collect())
+}
+
+pub fn trace(lent: &[u8]) -> String {
+    let front = lent.iter().take(BYTES);
+    labelled("trace", front.map(u8::to_string).collect())
 }
 
 pub fn table(lent: &[u32]) -> String {
@@ -67,6 +72,10 @@ pub fn line(index: u32, reading: &Reading, size: usize) -> String {
     let kind = reading.block_type;
     let text = match &reading.verdict {
         Verdict::Typed(block) => typed(block),
+        Verdict::Rle(r) => format!(
+            "rle source {:08x} begin {} end {} lost {}",
+            r.source, r.begin, r.end, r.lost
+        ),
         Verdict::Unknown => format!("unknown type {kind} bytes {size}"),
         Verdict::Dropped(_) => {
             let reason = reading.verdict.number();

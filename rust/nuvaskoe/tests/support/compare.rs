@@ -8,7 +8,7 @@ use super::{
     raw,
 };
 use independent::block::{
-    Block, Discard, Effective, Loss, Measurement, Reading, Reason, TransportStream,
+    Block, Discard, Effective, Loss, LossRle, Measurement, Reading, Reason, TransportStream,
 };
 use nuvaskoe::block as library;
 
@@ -164,12 +164,14 @@ fn indices(count: usize) -> impl Iterator<Item = usize> {
 pub fn translated(reading: library::Reading) -> (u8, Reading) {
     let translation = match reading.verdict {
         library::Verdict::Typed(block) => Reading::Typed(translated_block(block)),
+        library::Verdict::Rle(block) => Reading::Rle(translated_rle(block)),
         library::Verdict::Unknown => Reading::Unknown,
         library::Verdict::Dropped(reason) => Reading::Dropped(match reason {
             library::Reason::BadSize => Reason::D1,
             library::Reason::BadFlag => Reason::D2,
             library::Reason::BadRate => Reason::D3,
             library::Reason::Unmeasured => Reason::D4,
+            library::Reason::BadChunks => Reason::D5,
             other => unreachable!("{other:?}"),
         }),
         other => unreachable!("{other:?}"),
@@ -222,6 +224,17 @@ fn translated_stream(block: library::TransportStream) -> Block {
     };
     assert_eq!(block.packets(), stream.packets());
     Block::TransportStream(stream)
+}
+
+fn translated_rle(block: library::LossRle) -> LossRle {
+    let rle = LossRle {
+        source: block.source,
+        begin: block.begin,
+        end: block.end,
+        lost: block.lost,
+    };
+    assert_eq!(block.packets(), rle.packets());
+    rle
 }
 
 /// The first bytes in hex, and how many there are.

@@ -14,6 +14,7 @@ pub mod calls;
 pub mod cards;
 pub mod compare;
 pub mod differences;
+pub mod drawn_runs;
 pub mod drawn_tallies;
 pub mod measuring;
 pub mod numbers;
@@ -21,6 +22,7 @@ pub mod packets;
 pub mod pairs;
 pub mod panels;
 pub mod raw;
+pub mod runs;
 pub mod tallies;
 
 use std::{env, fmt, ops::RangeInclusive, str::FromStr};

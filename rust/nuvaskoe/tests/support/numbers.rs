@@ -20,12 +20,26 @@ pub fn block_answer(answer: &Answer<(u8, Reading)>) -> boundary::Block {
     }
 }
 
-/// "Where the verdict is NUVASKOE_TYPED, fields holds by type, the rest 0".
+/// "Where typed, or Loss RLE, by the names of its type's places; all others 0".
 fn fields(reading: &Reading) -> [u32; boundary::FIELDS] {
-    let Reading::Typed(block) = reading else {
-        return [0; boundary::FIELDS];
+    let front = match reading {
+        Reading::Typed(block) => typed_fields(block),
+        Reading::Rle(block) => vec![
+            block.source,
+            block.begin.into(),
+            block.end.into(),
+            block.packets().into(),
+            block.lost.into(),
+        ],
+        Reading::Unknown | Reading::Dropped(_) => Vec::new(),
     };
-    let front = match block {
+    let mut fields = [0; boundary::FIELDS];
+    fields[..front.len()].copy_from_slice(&front);
+    fields
+}
+
+fn typed_fields(block: &Block) -> Vec<u32> {
+    match block {
         Block::Measurement(block) => vec![
             block.source,
             block.first.into(),
@@ -51,10 +65,7 @@ fn fields(reading: &Reading) -> [u32; boundary::FIELDS] {
         ],
         Block::Effective(block) => vec![block.source, block.index.into()],
         Block::TransportStream(block) => stream_fields(block),
-    };
-    let mut fields = [0; boundary::FIELDS];
-    fields[..front.len()].copy_from_slice(&front);
-    fields
+    }
 }
 
 /// "Source, begin, end, packets covered, streams, eight counts in the draft's order".

@@ -1,6 +1,6 @@
 //! Packets to compare on: built from blocks, drawn, and damaged.
 
-use super::Random;
+use super::{drawn_runs::random_rle, Random};
 
 /// Byte 0 of a good packet: version 2, no padding.
 pub const VERSION_2: u8 = 0x80;
@@ -16,7 +16,7 @@ pub const P12: [u8; 20] = [
     0x92, 0x48, 0x00, 0x00,
 ];
 
-/// The listed types and the words of their bodies.
+/// The listed types and the words of their bodies. Type 1 has bodies of many sizes.
 pub const LISTED: [(u8, usize); 5] = [(14, 7), (17, 3), (18, 2), (240, 2), (241, 11)];
 
 pub fn listed_words(block_type: u8) -> Option<usize> {
@@ -25,7 +25,7 @@ pub fn listed_words(block_type: u8) -> Option<usize> {
 }
 
 /// Types that are not listed; those near or like a listed one, and the ends.
-const UNLISTED: [u8; 12] = [0, 1, 13, 15, 16, 19, 113, 142, 207, 239, 242, 255];
+const UNLISTED: [u8; 12] = [0, 2, 13, 15, 16, 19, 113, 142, 207, 239, 242, 255];
 
 /// Sources that share halves and bytes, so that a part of one is not taken for all of it.
 pub const SOURCES: [u32; 6] = [0, 1, 0x0100_0000, 0x0001_0001, 0x0001_0100, 0xFFFF_FFFF];
@@ -74,7 +74,7 @@ pub fn listed(block_type: u8, source: u32) -> Vec<u8> {
 
 /// A packet of `length` bytes with one unknown block that fills it.
 pub fn one_block(length: usize) -> Vec<u8> {
-    let bytes = packet(7, &[block(1, 0, &vec![0; length - 12])]);
+    let bytes = packet(7, &[block(2, 0, &vec![0; length - 12])]);
     assert_eq!(bytes.len(), length);
     bytes
 }
@@ -107,7 +107,7 @@ pub fn measured_late() -> Vec<u8> {
         listed(17, 5),
         listed(18, 5),
         listed(17, 6),
-        block(1, 0, &[]),
+        block(2, 0, &[]),
         listed(18, 6),
         listed(14, 5),
     ];
@@ -116,13 +116,14 @@ pub fn measured_late() -> Vec<u8> {
 
 /// The type-specific byte, source and rates are often good, and the size mostly.
 pub fn random_block(random: &mut Random, sources: &[u32]) -> Vec<u8> {
-    let block_type = match random.below(16) {
+    let block_type = match random.below(18) {
         0..=2 => 14,
         3..=6 => 17,
         7..=10 => 18,
         11 => 240,
         12 => 241,
         13 | 14 => random.one_of(&UNLISTED),
+        15 | 16 => return random_rle(random, sources),
         _ => random.byte(),
     };
     let words = match listed_words(block_type) {
@@ -186,7 +187,12 @@ pub fn any_packet(random: &mut Random) -> Vec<u8> {
     if random.below(200) == 0 {
         return long_packet(random);
     }
-    let mut packet = random_packet(random);
+    let packet = random_packet(random);
+    perhaps_damaged(random, packet)
+}
+
+/// A good packet as it is, damaged, or other bytes in its place.
+pub fn perhaps_damaged(random: &mut Random, mut packet: Vec<u8>) -> Vec<u8> {
     let (place, length) = (random.below(packet.len()), random.below(12));
     match random.below(16) {
         0 => return random.bytes(8 * length),

@@ -80,6 +80,19 @@ pub fn packet_add(out: &mut [u8], block: &independent::block::Block) -> Written 
     }
 }
 
+pub fn packet_rle(packet: &[u8], index: usize, out: &mut [u8]) -> Written {
+    let (start, length) = (packet.as_ptr(), packet.len());
+    // SAFETY: as above.
+    unsafe { boundary::nuvaskoe_packet_rle(start, length, index, out.as_mut_ptr(), out.len()) }
+}
+
+pub fn packet_add_rle(out: &mut [u8], source: u32, begin: u16, trace: &[u8]) -> Written {
+    let (start, length) = (trace.as_ptr(), trace.len());
+    let (out, room) = (out.as_mut_ptr(), out.len());
+    // SAFETY: as above.
+    unsafe { boundary::nuvaskoe_packet_add_rle(out, room, source, begin, start, length) }
+}
+
 pub fn tally_open(gmin: u32, spacing: u32, event: u32) -> Tallied {
     // SAFETY: it takes any numbers.
     unsafe { boundary::nuvaskoe_tally_open(gmin, spacing, event) }

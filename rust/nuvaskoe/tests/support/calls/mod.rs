@@ -7,6 +7,7 @@ mod cards;
 mod measuring;
 mod panels;
 mod reading;
+mod runs;
 mod writing;
 
 use super::{answers::Answer, raw, Random};
@@ -66,6 +67,7 @@ pub fn calls() -> Vec<Call> {
     calls.extend(cards::calls());
     calls.extend(reading::calls());
     calls.extend(writing::calls());
+    calls.extend(runs::calls());
     calls.extend(measuring::calls());
     calls.extend(batches::calls());
     calls.extend(panels::calls());

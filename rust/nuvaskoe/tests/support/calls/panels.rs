@@ -43,7 +43,20 @@ fn any_read(random: &mut Random) -> ((u8, u8, Vec<u8>), boundary::Block) {
     let (packet, index) = indexed(random);
     let answer = theirs(independent::packet::block(&packet, index));
     let mut block = block_answer(&answer);
-    let number = random.one_of(&[0, 1, 4, 16, 17, 18, 255, 32_768, 65_535, 65_536 + 17]);
+    let number = random.one_of(&[
+        0,
+        1,
+        4,
+        5,
+        16,
+        17,
+        18,
+        254,
+        255,
+        32_768,
+        65_535,
+        65_536 + 17,
+    ]);
     let place = random.below(4);
     match random.below(16) {
         0 => block.refusal.number = number,
