@@ -1,5 +1,6 @@
 #!/usr/bin/env python3
-"""Runs target/bin/listing on packets and compares what it writes with text computed here from document 01 alone.
+"""Runs target/bin/listing on packets and compares what it writes with text computed here from document 01 alone, and for
+blocks of type 1 by loss_rle.py from document 02, ticket 5.
 
 Run in the repository's root after `rt check listing`. Prints one line; exit status 1 where a text differs.
 `--sample` writes crates/listing/stdin and stdout instead, `--time` prints times of large packets.
@@ -11,6 +12,9 @@ import struct
 import subprocess
 import sys
 import time
+
+sys.dont_write_bytecode = True  # a run leaves no files in the tree
+import loss_rle
 
 PROGRAM = os.environ.get("LISTING", "target/bin/listing")
 SIZES = {14: 28, 17: 12, 18: 8, 240: 8, 241: 44}
@@ -100,6 +104,9 @@ def listing(s):
     measured = {int.from_bytes(b[:4], "big") for kind, _, b in all_blocks if kind == 14 and len(b) == 28}
     lines = [f"ssrc {s[4:8].hex()} blocks {len(all_blocks)}"]
     for k, (kind, specific, body) in enumerate(all_blocks):
+        if kind == loss_rle.RLE:
+            lines.append(f"{k} {loss_rle.text(specific, body)}")
+            continue
         if kind not in SIZES:
             lines.append(f"{k} unknown type {kind} bytes {len(body)}")
             continue
@@ -127,7 +134,7 @@ def streams(source, begin, end, *counts):
 P12 = bytes.fromhex("80CF0004 00000001 F0000002 00000002 92480000")
 P12_TEXT = "ssrc 00000001 blocks 1\n0 eli source 00000002 index 37448\n"
 
-# All kinds, an unknown block, each reason to drop, `over` and `none`; block 14 stands after the 17 that needs it.
+# The five kinds, unknown blocks, each reason to drop, `over` and `none`; block 14 stands after the 17 that needs it.
 SAMPLE = packet([
     loss(0xA1B2C3D4, 2, 26214, 5461, 2, 65534),
     measurement(0xA1B2C3D4, 65535, 65535, 4294967295, 48000, 3, 2147483648),
@@ -135,12 +142,13 @@ SAMPLE = packet([
     discard(0xA1B2C3D4, 1, 0, 65535),
     block(240, 0, bytes.fromhex("00000002FFFF0000")),
     streams(0x00000003, 65535, 2, 1, 10, 20, 30, 40, 50, 60, 70, 4294967295),
-    block(1, 0, bytes(range(12))),
+    block(2, 0, bytes(range(12))),
     block(255, 7, b""),
     block(240, 0, bytes(12)),
     loss(0xA1B2C3D4, 0, 0, 0, 0, 0),
     discard(0xA1B2C3D4, 1, 32769, 0),
     loss(0x0BADCAFE, 1, 0, 0, 0, 0),
+    block(1, 0, bytes(range(12))),
 ], sender=0xDEADBEEF)
 
 
@@ -153,8 +161,24 @@ def largest_lines():
     return packet([streams(0xFFFFFFFF, 40000, 39999, *[0xFFFFFFFF] * 9)] * (65528 // 48))
 
 
+def some_rle(rng):
+    """A block of type 1, good in three of four cases: chunks up to the end, at times one of them damaged or one too many."""
+    interval, chunks = rng.choice([0, 1, 15, 30, rng.randrange(100), rng.randrange(65536)]), []
+    while sum(map(len, map(loss_rle.packets_of, chunks))) < interval:
+        chunks.append(rng.choice([0x8000 + rng.randrange(0x8000), rng.choice([0, 0x4000]) + 1 + rng.randrange(interval) % 0x3fff, 0x4000]
+                                 if interval < 100 else [0x3fff, 0x7fff]))
+    if rng.random() < 0.2:
+        chunks[rng.randrange(len(chunks) + 1):] = [rng.choice([0, 0x4000, 0x8000, rng.randrange(65536)])]
+    chunks += [0] * (len(chunks) % 2 + 2 * rng.randrange(2))
+    begin = rng.choice([0, 65530, rng.randrange(65536)])
+    body = struct.pack(f">IHH{len(chunks)}H", rng.randrange(3), begin, (begin + interval) % 65536, *chunks)
+    return block(1, rng.choice([0, 0, 0, 0xf0, rng.randrange(256)]), body[:rng.choice([4, 8] + [len(body)] * 20)])
+
+
 def some_blocks(rng):
     def one():
+        if rng.random() < 0.15:
+            return some_rle(rng)
         kind = rng.choice([14, 17, 18, 240, 241, rng.randrange(256)])
         size = SIZES.get(kind, 4 * rng.randrange(5))
         if rng.random() < 0.15:
@@ -182,7 +206,10 @@ def cases(rng):
     yield "refusal 4: longer", P12 + bytes(4)
     yield "refusal 4: shorter", P12[:-4]
     yield "refusal 5", b"\xa0" + P12[1:]
-    yield "refusal 6", packet([block(1, 0, b""), struct.pack(">BBH", 9, 0, 1)])
+    yield "type 1: no packets", packet([block(1, 0, bytes(8)), block(1, 0, bytes(16))])
+    yield "type 1: the most packets", packet([block(1, 0, struct.pack(">IHH6H", 5, 7, 4, *[0x3fff] * 4, 1, 0)), block(9, 0, b"")])
+    yield "type 1: 65,536 bytes of chunks", packet([block(1, 0, struct.pack(">IHH", 5, 7, 7 + 32757) + b"\0\1" * 32757 + b"\0\0")])
+    yield "refusal 6", packet([block(2, 0, b""), struct.pack(">BBH", 9, 0, 1)])
     yield "65,536 bytes of four-byte blocks", four_byte_blocks(65536)
     yield "65,536 bytes of the longest lines", largest_lines()
     yield "65,536 bytes, one block", packet([block(9, 0, bytes(65524))])

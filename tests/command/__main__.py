@@ -15,12 +15,13 @@ import cards
 import dials
 import packets
 import pairs
+import runs
 import traces
 import usage
 from run import Run
 
 # Every function of these that is named so.
-MODULES = (traces, cards, packets, pairs, dials, usage)
+MODULES = (traces, cards, packets, pairs, dials, runs, usage)
 CHECKS = [check for module in MODULES for name, check in vars(module).items() if name.startswith("check_")]
 # The names of JSON that are none of the header's: what was read, lists of answers, and what has no name in C.
 OWN_NAMES = {"file", "form", "list", "cards", "explained", "lost", "discarded", "marked", "offset", "kind", "meaning", "advice",

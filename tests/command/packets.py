@@ -13,8 +13,9 @@ LISTING = str(pathlib.Path("target/bin/listing").resolve())
 SPAN = {"--first": "65535", "--extended-first": "4294967295", "--extended-last": "7", "--interval": "8", "--seconds": "9",
         "--fraction": "10"}
 REPORTED = {"--sender": "1", "--source": "2", "--flag": "1", **SPAN}
-# The lines of typed blocks over the names of JSON; a dropped or unknown block has no fields.
+# The lines of typed blocks and of Loss RLE over the names of JSON; a dropped or unknown block has no fields.
 LINES = {
+    1: "rle source {source:08x} begin {begin} end {end} lost {lost}",
     14: "meas source {source:08x} first {first} efirst {extended_first} elast {extended_last} interval {interval} "
         "seconds {seconds} fraction {fraction}",
     17: "loss source {source:08x} i {flag} burst {burst_rate} gap {gap_rate} mean {burst_mean} var {burst_variance}",
@@ -31,7 +32,9 @@ def line_of(block):
     kind, verdict, fields = block["block_type"], block["verdict"], dict(block["fields"])
     if verdict == 255:
         return f"unknown type {kind} bytes {block['length']}"
-    if verdict:
+    if verdict == 254:
+        assert fields["packets"] == (fields["end"] - fields["begin"]) % 65536, fields
+    elif verdict:
         return f"dropped type {kind} reason {verdict}"
     for name in ("burst_rate", "gap_rate", "burst_mean", "burst_variance"):
         if name in fields:

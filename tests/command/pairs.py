@@ -13,9 +13,10 @@ from run import COMMAND, SAMPLES, Run, refusal_of
 
 FIVE = ("kind", "block", "field", "first", "second")
 HEADER = pathlib.Path("include/nuvaskoe.h").read_text()
-# The names of the fields of each type, in layout order, as the header has them; the packets that a block 241 covers are none.
+# The names of the fields of each type, in layout order, as the header has them; the packets that a block 241 covers are none. Loss RLE
+# is compared by bytes.
 NAMES = {int(kind): [name.lower() for name in re.findall(rf"NUVASKOE_FIELD_{word}_(\w+) = ", HEADER) if name != "PACKETS"]
-         for word, kind in re.findall(r"NUVASKOE_BLOCK_(\w+) = (\d+)", HEADER)}
+         for word, kind in re.findall(r"NUVASKOE_BLOCK_(\w+) = (\d+)", HEADER) if word != "RLE"}
 # The words that stand before them in a listing.
 LISTED = {kind: {name: word for word, name in re.findall(r"(\w+) \{(\w+)", line)} for kind, line in LINES.items()}
 
@@ -39,7 +40,7 @@ def reading(block, name):
 def what(block):
     """What is said of a whole block: a typed one has the first word of its line."""
     _, text = block
-    return text if text.startswith(("dropped", "unknown")) else text.split()[0]
+    return text if text.startswith(("dropped", "unknown", "rle")) else text.split()[0]
 
 
 def line_of(entry, first, second, names):

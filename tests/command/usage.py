@@ -23,6 +23,7 @@ def check_usage(_):
     Run("--json", "list").wrong("the job comes first")
     Run("help", "figures", "x").wrong('no job "figures x"')
     for job, fewer in [("list", "FILE is missing"), ("compare", "two files are needed"), ("dials", "FILE is missing"),
+                       ("runs", "FILE and K are needed"),
                        ("card read", "TEXT is missing"),
                        ("figures", "TRACE is missing"), ("loss", "TRACE is missing"), ("plan", "TRACE is missing"),
                        ("report", "TRACE is missing"), ("explain", "N is missing")]:
@@ -125,7 +126,7 @@ def rows_of(head):
 def check_explain(_):
     """Every row of README's two tables."""
     tables = [rows_of("N"), rows_of("Reason")]
-    assert [len(table) for table in tables] == [17, 4]
+    assert [len(table) for table in tables] == [17, 5]
     for number in range(1, 18):
         rows = [(kind, *row) for kind, table in zip(("refusal", "reason"), tables) for row in table if row[0] == str(number)]
         words = "".join(f"{kind} {n}: {meaning}\n  what to do: {advice}\n" for kind, n, meaning, advice in rows)
@@ -133,7 +134,8 @@ def check_explain(_):
         got = Run("explain", "--json", str(number)).json()["explained"]
         assert [(row["kind"], str(row["number"]), row["meaning"], row["advice"]) for row in got] == rows, got
     assert Run("explain", "D4", "d1").text().startswith("reason 4: ")
-    for word in ("0", "-", "18", "D0", "D5", "4294967297", "x", "", "D", "+1", "9" * 30):
+    assert Run("explain", "D5").text().startswith("reason 5: the chunks of Loss RLE (1) ")
+    for word in ("0", "-", "18", "D0", "D6", "4294967297", "x", "", "D", "+1", "9" * 30):
         Run("explain", word).wrong("is no refusal and no reason")
 
 
@@ -181,14 +183,15 @@ def check_pages(folder):
     script = folder / "completion"
     script.write_text(Run("help", "--completion").text())
     names = re.findall(r"^  (\S+(?: \S+)?)  ", Run("help").text().split("\n\n")[2], re.M)
-    assert re.findall(r"^\.SS (.*)$", page, re.M) == names and len(names) == 11, (names, page)
-    assert re.findall(r"^\.B (D?\d+)$", page, re.M) == [*map(str, range(1, 18)), "D1", "D2", "D3", "D4"], page
+    assert re.findall(r"^\.SS (.*)$", page, re.M) == names and len(names) == 12, (names, page)
+    assert re.findall(r"^\.B (D?\d+)$", page, re.M) == [*map(str, range(1, 18)), "D1", "D2", "D3", "D4", "D5"], page
     if shutil.which("groff"):
         shown = subprocess.run(["groff", "-man", "-ww", "-Tascii"], input=page, capture_output=True, text=True, check=True)
         assert shown.stderr == "" and r"$ printf '\200\317\0\4" in shown.stdout, shown
     for typed, completed in [("fi", "figures"), ("card m", "make"), ("card ''", "read make"), ("plan -", "--card --gmin"),
                              ("card make --s", "--spacing"), ("plan ''", ""), ("list x ''", ""), ("help lo", "loss"), ("zz", ""),
-                             ("figures --form ''", "bytes digits"), ("com", "compare"), ("compare a -", "--json"), ("dials x -", "-o --json")]:
+                             ("figures --form ''", "bytes digits"), ("com", "compare"), ("compare a -", "--json"), ("dials x -", "-o --json"),
+                             ("ru", "runs"), ("runs x 1 -", "-o --json"), ("report --r", "--runs")]:
         line = f"set -eu; source {script}; COMP_WORDS=(nuvaskoe {typed}); COMP_CWORD=$((${{#COMP_WORDS[@]}} - 1)); _nuvaskoe"
         told = subprocess.run(["bash", "-c", f"{line}; echo ${{COMPREPLY[@]-}}"], capture_output=True, text=True, check=True).stdout
         assert told.startswith(completed) and (completed or told == "\n"), (typed, told)
@@ -199,11 +202,11 @@ def check_anything(folder):
     rng = random.Random(5)
     path = folder / "anything"
     packet = shutil.copy(SAMPLES / "week-1.xr", folder)
-    some = ["list", "compare", "dials", "card", "read", "make", "figures", "loss", "plan", "report", "explain", "help", "--json", "--form",
+    some = ["list", "compare", "dials", "runs", "card", "read", "make", "figures", "loss", "plan", "report", "explain", "help", "--json", "--form",
             "bytes", "digits", "--card", CARD, EXCHANGED, "--gmin", "--batch", "--threshold", "--spacing", "-o", "--", "-", "",
             "--flag", "0", "1", "3", "99999", "-h", "--version", "é", b"\xff", "--gmin=2", "--batch=3", "--threshold=1",
-            "--spacing=400", str(path), packet]
+            "--spacing=400", "--runs", str(path), packet]
     for _ in range(1500):
         path.write_bytes(rng.choice([rng.randbytes(rng.randrange(40)), bytes(rng.choices([0, 1, 2, 3, 48, 49, 10], k=30))]))
-        jobs = [["list"], ["compare"], ["dials"], ["card", "read"], ["figures"], ["loss"], ["plan"], ["report"], ["explain"], []]
+        jobs = [["list"], ["compare"], ["dials"], ["runs"], ["card", "read"], ["figures"], ["loss"], ["plan"], ["report"], ["explain"], []]
         Run(*rng.choice(jobs), *rng.choices(some, k=rng.randrange(7)), data=rng.randbytes(20), cwd=folder)

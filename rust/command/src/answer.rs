@@ -71,6 +71,8 @@ pub enum Failure {
         refusal: Refusal,
         /// What was refused, in a line.
         what: String,
+        /// What that means and what to do, where the table of refusals says it of other inputs.
+        told: Option<(&'static str, &'static str)>,
     },
     /// The library refused one of two packets. Status 1 says there that they differ.
     OneOfTwo { refusal: Refusal, file: OsString },
@@ -85,8 +87,20 @@ pub enum Failure {
 impl Failure {
     /// What the library said of this input.
     pub fn refused(refusal: Refusal, what: impl Into<String>) -> Failure {
-        let what = what.into();
-        Failure::Refused { refusal, what }
+        let (what, told) = (what.into(), None);
+        Failure::Refused {
+            refusal,
+            what,
+            told,
+        }
+    }
+
+    /// The same in words of its own: what a refusal means, and what to do.
+    pub fn saying(mut self, meaning: &'static str, advice: &'static str) -> Failure {
+        if let Failure::Refused { told, .. } = &mut self {
+            *told = Some((meaning, advice));
+        }
+        self
     }
 
     /// What the system said of this file.
@@ -122,8 +136,12 @@ impl Failure {
 impl fmt::Display for Failure {
     fn fmt(&self, f: &mut fmt::Formatter<'_>) -> fmt::Result {
         match self {
-            Failure::Refused { refusal, what } => in_words(refusal, what, f),
-            Failure::OneOfTwo { refusal, file } => in_words(refusal, &shown(file), f),
+            Failure::Refused {
+                refusal,
+                what,
+                told,
+            } => in_words(refusal, what, *told, f),
+            Failure::OneOfTwo { refusal, file } => in_words(refusal, &shown(file), None, f),
             Failure::Usage(words) | Failure::File(words) => writeln!(f, "nuvaskoe: {words}"),
             Failure::TooLong { name, most } => {
                 writeln!(f, "nuvaskoe: {name}: too long, over {most} bytes")
@@ -133,9 +151,14 @@ impl fmt::Display for Failure {
 }
 
 /// A refusal of this, what it means and what to do.
-fn in_words(refusal: &Refusal, what: &str, f: &mut fmt::Formatter<'_>) -> fmt::Result {
+fn in_words(
+    refusal: &Refusal,
+    what: &str,
+    told: Option<(&str, &str)>,
+    f: &mut fmt::Formatter<'_>,
+) -> fmt::Result {
     let (number, place) = (refusal.number(), refusal.place);
-    let (meaning, advice) = (refusal.kind.meaning(), refusal.kind.advice());
+    let (meaning, advice) = told.unwrap_or((refusal.kind.meaning(), refusal.kind.advice()));
     writeln!(f, "refused {number} at {place}")?;
     writeln!(f, "  {what}")?;
     writeln!(f, "  {meaning}")?;

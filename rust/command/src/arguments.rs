@@ -154,6 +154,18 @@ impl Arguments {
         first.map_or(OsStr::new(""), OsString::as_os_str)
     }
 
+    /// A word that is the number of a block. One that is too large for a block is as good as the
+    /// largest.
+    pub fn block(&self, word: &OsStr) -> Result<usize, Failure> {
+        match word.to_str().and_then(decimal) {
+            Some(number) => Ok(usize::try_from(number).unwrap_or(usize::MAX)),
+            None => {
+                let word = plain(&word.to_string_lossy());
+                Err(self.usage(format!("K: \"{word}\" is no number")))
+            }
+        }
+    }
+
     /// Whether `--json` is given.
     pub fn is_json(&self) -> bool {
         self.text(&JSON).is_some()

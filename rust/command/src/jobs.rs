@@ -9,6 +9,7 @@ mod list;
 mod loss;
 mod plan;
 mod report;
+mod runs;
 
 use crate::{
     answer::{plain, Failure},
@@ -38,10 +39,11 @@ pub struct Job {
 }
 
 /// All jobs, in the order of help.
-pub static JOBS: [&Job; 11] = [
+pub static JOBS: [&Job; 12] = [
     &list::LIST,
     &compare::COMPARE,
     &dials::DIALS,
+    &runs::RUNS,
     &card::READ,
     &card::MAKE,
     &figures::FIGURES,

@@ -55,6 +55,10 @@ pub fn line(block: &PacketBlock<'_>) -> String {
             let streams = b.streams;
             format!("ts source {source:08x} begin {begin} end {end} packets {packets} streams {streams} counts{counts}")
         }
+        Verdict::Rle(b) => format!(
+            "rle source {:08x} begin {} end {} lost {}",
+            b.source, b.begin, b.end, b.lost
+        ),
         Verdict::Dropped(reason) => format!("dropped type {block_type} reason {}", reason.number()),
         _ => format!("unknown type {block_type} bytes {}", block.body.len()),
     }
@@ -101,6 +105,14 @@ pub fn shown(name: &str, number: u32) -> String {
     }
 }
 
+/// For scripts: the number of a block, and the block as `list` has it.
+pub fn numbered(block: &PacketBlock<'_>) -> Object {
+    object([
+        ("index", block.index.into()),
+        ("block", block_numbers(block).into()),
+    ])
+}
+
 /// A block as `nuvaskoe_block`, with its offset and the length of its body.
 pub fn block_numbers(block: &PacketBlock<'_>) -> Object {
     object([
@@ -112,7 +124,8 @@ pub fn block_numbers(block: &PacketBlock<'_>) -> Object {
     ])
 }
 
-/// The fields of a typed block in layout order, by the names of its struct.
+/// The fields of a typed block in layout order, by the names of its struct, and of Loss RLE by those
+/// of its places.
 fn fields(verdict: &Verdict) -> Object {
     match verdict {
         Verdict::Typed(Block::Measurement(b)) => object([
@@ -142,6 +155,13 @@ fn fields(verdict: &Verdict) -> Object {
             object([("source", b.source.into()), ("index", b.index.0.into())])
         }
         Verdict::Typed(Block::TransportStream(b)) => streams(b),
+        Verdict::Rle(b) => object([
+            ("source", b.source.into()),
+            ("begin", b.begin.into()),
+            ("end", b.end.into()),
+            ("packets", b.packets().into()),
+            ("lost", b.lost.into()),
+        ]),
         _ => Object::default(),
     }
 }

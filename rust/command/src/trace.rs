@@ -39,6 +39,8 @@ packets, which are numbered from 0.
 
 /// The most packets of a trace. One more is read, enough for the library to refuse it.
 const MOST: usize = 65_536;
+/// The packets of a line that is written.
+const LINE: usize = 60;
 /// What the library is handed for a character that is no packet: it refuses a byte above 2.
 const NO_PACKET: u8 = u8::MAX;
 
@@ -126,6 +128,20 @@ fn digits(name: &OsStr, file: impl BufRead) -> Result<(Vec<u8>, Option<String>),
         }
     }
     Ok((packets, unfit))
+}
+
+/// A trace in digits, in lines of 60.
+pub fn in_digits(packets: &[u8]) -> String {
+    let mut digits = String::new();
+    for line in packets.chunks(LINE) {
+        digits.extend(line.iter().map(|packet| match packet {
+            0 => '0',
+            1 => '1',
+            _ => '2',
+        }));
+        digits.push('\n');
+    }
+    digits
 }
 
 impl Trace {

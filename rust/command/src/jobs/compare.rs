@@ -23,9 +23,9 @@ A and B are files with one packet each. Their blocks are paired by number, and
 each difference is a line in the words of the job `list`: what A has, `and`,
 what B has. A block of one packet alone is `only in FILE`, and two blocks that
 these words do not tell apart are `in both, the bytes differ`. The eight counts
-of `ts` have names here. Blocks of two types, and blocks that are unknown or
-dropped, are compared as a whole; of all others the reserved bits are left out.
-A file of over 262,144 bytes is no packet.
+of `ts` have names here. Blocks of two types, and blocks that are unknown,
+dropped or `rle`, are compared as a whole; of all others the reserved bits are
+left out. A file of over 262,144 bytes is no packet.
 
 The exit status is that of diff: 0 where nothing differs, and nothing is then
 printed; 1 where something does; 2 for a refusal, for wrong usage or for a file

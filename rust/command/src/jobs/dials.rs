@@ -3,7 +3,7 @@
 use super::Job;
 use crate::{
     answer::{not_refused, plain, shown, Answer, Failure, One},
-    arguments::{decimal, Arguments, Opt, Takes, JSON},
+    arguments::{Arguments, Opt, Takes, JSON},
     drawing, input,
     json::{object, Object, Value},
     listing, output, words,
@@ -14,7 +14,6 @@ use nuvaskoe::{
     panel::{self, Needle, Panel},
     Refusal,
 };
-use std::ffi::OsString;
 
 const OUT: Opt = output::option("the panel drawn, an SVG; - is standard output");
 
@@ -56,13 +55,13 @@ hall.xr, block 1 discard source 00000002 i 1 burst 8192 gap none
 fn run(arguments: &Arguments) -> Result<Answer<'_>, Failure> {
     let file = arguments.word();
     let asked = arguments.words().get(1);
-    let index = asked.map(|word| number(arguments, word)).transpose()?;
+    let index = asked.map(|word| arguments.block(word)).transpose()?;
     let packet = input::packet(file)?;
     let chosen = chosen(&packet, index);
     let (at, numbers) = match &chosen {
         Ok(Some(block)) => (
             format!("block {} {}", block.index, listing::line(block)),
-            not_refused().and(of_block(block)),
+            not_refused().and(listing::numbered(block)),
         ),
         Ok(None) => ("no block 17 or 18 to show".into(), not_refused()),
         Err(_) => ("no block to show".into(), Object::default()),
@@ -90,17 +89,6 @@ fn run(arguments: &Arguments) -> Result<Answer<'_>, Failure> {
     Ok(Answer::One(output::with(arguments, one, drawing)))
 }
 
-/// The number of a block. One that is too large for a block is as good as the largest.
-fn number(arguments: &Arguments, word: &OsString) -> Result<usize, Failure> {
-    match word.to_str().and_then(decimal) {
-        Some(number) => Ok(usize::try_from(number).unwrap_or(usize::MAX)),
-        None => {
-            let word = plain(&word.to_string_lossy());
-            Err(arguments.usage(format!("K: \"{word}\" is no number")))
-        }
-    }
-}
-
 /// The block with this number, or the first that has needles.
 fn chosen(packet: &[u8], index: Option<usize>) -> Result<Option<PacketBlock<'_>>, Refusal> {
     let mut blocks = packet::blocks(packet)?;
@@ -126,14 +114,6 @@ fn lines(panel: &Panel) -> String {
     });
     let lamp = words::lamp(panel);
     format!("  burst needle  {burst}\n  gap needle    {gap}\n  lamp          {lamp}\n")
-}
-
-/// For scripts: the number of the block, and the block as `list` has it.
-fn of_block(block: &PacketBlock<'_>) -> Object {
-    object([
-        ("index", block.index.into()),
-        ("block", listing::block_numbers(block).into()),
-    ])
 }
 
 /// For scripts: as `nuvaskoe_panel`.

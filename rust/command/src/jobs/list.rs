@@ -17,8 +17,9 @@ pub const LIST: Job = Job {
     words: "\
 Each FILE holds one packet; where there are several, each has a heading. A
 figure that reads `none` could not be measured, and one that reads `over` is
-too large to send. A block that reads `dropped` has a reason, which the job
-`explain` explains. A file of over 65,536 bytes is `too long`.
+too large to send. A block that reads `rle` says which packets were lost, and
+the job `runs` writes its trace. One that reads `dropped` has a reason, which the
+job `explain` explains. A file of over 65,536 bytes is `too long`.
 ",
     options: &[JSON],
     takes: Takes {

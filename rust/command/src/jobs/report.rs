@@ -1,4 +1,4 @@
-//! A report packet made from a measured trace: blocks 14, 17, 18 and 240.
+//! A report packet made from a measured trace: blocks 14, 17, 18 and 240, and 1 where it is asked for.
 
 use super::Job;
 use crate::{
@@ -10,7 +10,7 @@ use crate::{
 };
 use nuvaskoe::{
     block::{Block, Effective, Measurement},
-    effective, figures, packet, Refusal,
+    effective, figures, packet, Refusal, RefusalKind,
 };
 use std::ffi::OsStr;
 
@@ -59,13 +59,18 @@ const FRACTION: Opt = Opt {
     value: Some("N"),
     words: "the rest of it, in parts of 1/4,294,967,296 of a second",
 };
+const RUNS: Opt = Opt {
+    name: "--runs",
+    value: None,
+    words: "which packets were lost too, as Loss RLE (1)",
+};
 const OUT: Opt = output::option("where the packet goes; - is standard output");
 
 pub const REPORT: Job = Job {
     name: "report",
     usage: "--card CARD --sender S --source S --flag F --first N
     --extended-first N --extended-last N --interval N --seconds N --fraction N
-    TRACE -o FILE",
+    [--runs] TRACE -o FILE",
     purpose: "a report packet made from a measured trace",
     words: "\
 The packet has four blocks on its source: what was measured (14), bursts and
@@ -73,6 +78,11 @@ gaps of lost packets (17) and of discarded ones (18), and effective loss (240).
 A trace holds no sequence numbers and no clock, so the numbers of block 14 are
 given as the receiver has them: 16 milliseconds are 1048 as an interval and
 68719476 as a fraction. The job `list` then shows the packet.
+
+With --runs a block of Loss RLE (1) stands before the last and says of every
+packet whether it was received or lost; its first sequence number is that of
+--extended-first. A trace with discarded packets, or with over 65,533, is then
+refused. The job `runs` reads the trace out of the packet again.
 ",
     options: &[
         CARD,
@@ -89,6 +99,7 @@ given as the receiver has them: 16 milliseconds are 1048 as an interval and
         INTERVAL,
         SECONDS,
         FRACTION,
+        RUNS,
         FORM,
         OUT,
         JSON,
@@ -127,8 +138,8 @@ const NEEDED: [&Opt; 10] = [
     &OUT,
 ];
 
-/// Enough for the four blocks.
-const ROOM: usize = 128;
+/// Enough for the four blocks, and for one on 65,533 packets, which has 8,752 bytes.
+const ROOM: usize = 8_880;
 
 fn run(arguments: &Arguments) -> Result<Answer<'_>, Failure> {
     arguments.need(&NEEDED, None)?;
@@ -136,8 +147,9 @@ fn run(arguments: &Arguments) -> Result<Answer<'_>, Failure> {
     let settings = settings::given(arguments)?.all()?;
     let trace = trace::read(arguments, arguments.word())?;
     let blocks = measured(&trace, &settings, span, flag)?;
-    let refused = |refusal| trace.refused(refusal, flag_in_words(flag));
-    let packet = made(sender, &blocks).map_err(refused)?;
+    let runs = arguments.text(&RUNS).map(|_| (span, &trace.packets[..]));
+    let refused = |refusal| refused(&trace, refusal, flag);
+    let packet = made(sender, &blocks, runs).map_err(refused)?;
     let numbers = listing::numbers(&packet).map_err(refused)?;
     let one = trace.answer(&settings, "", numbers);
     Ok(Answer::One(output::with(arguments, one, packet)))
@@ -167,15 +179,42 @@ fn measured(
     ])
 }
 
-/// The packet with these blocks.
-fn made(sender: u32, blocks: &[Block]) -> Result<Vec<u8>, Refusal> {
+/// The packet with these blocks and, before the last, the trace of this span. Some programs call a
+/// packet malformed that ends with such a block.
+fn made(
+    sender: u32,
+    blocks: &[Block; 4],
+    runs: Option<(Measurement, &[u8])>,
+) -> Result<Vec<u8>, Refusal> {
+    let [measured, lost, discarded, effective] = blocks;
     let mut packet = vec![0; ROOM];
-    let mut size = packet::new(sender, &mut packet)?;
-    for block in blocks {
-        size = packet::add(&mut packet, block)?;
+    packet::new(sender, &mut packet)?;
+    for block in [measured, lost, discarded] {
+        packet::add(&mut packet, block)?;
     }
+    if let Some((span, trace)) = runs {
+        // A sequence number is the low half of the extended one.
+        let begin = span.extended_first as u16;
+        packet::add_rle(&mut packet, span.source, begin, trace)?;
+    }
+    let size = packet::add(&mut packet, effective)?;
     packet.truncate(size);
     Ok(packet)
+}
+
+/// What the library said of the blocks. A trace was taken before, and is now refused for Loss RLE.
+fn refused(trace: &Trace, refusal: Refusal, flag: u8) -> Failure {
+    match refusal.kind {
+        RefusalKind::TraceByte => trace.refused(refusal, RUNS.name).saying(
+            "that packet was discarded, and Loss RLE has received and lost packets alone",
+            "leave --runs out, or hand in a trace that counts it as received or as lost",
+        ),
+        RefusalKind::TraceLength => trace.refused(refusal, RUNS.name).saying(
+            "the trace is over 65,533 packets, the most of Loss RLE",
+            "leave --runs out, or measure in shorter stretches",
+        ),
+        _ => trace.refused(refusal, flag_in_words(flag)),
+    }
 }
 
 /// The block 14, as it is given.
