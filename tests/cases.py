@@ -22,7 +22,7 @@ HELD = 7  # what each lent byte or entry holds before the call
 # The greatest number that a field holds, by the field's name; any other field holds 32 bits.
 LIMITS = {"type": 255, "specific": 255, "flag": 255, "packet": 255, "first": 65535, "begin": 65535, "end": 65535,
           "burst": 65535, "gap": 65535, "mean": 65535, "var": 65535, "index": 65535, "LEN": 262144, "ROOM": 262144,
-          "ENTRIES": 262144, "NUMBERS": 262144}
+          "ENTRIES": 262144, "NUMBERS": 262144, "PACKETS": 262144}
 TALLY = "event gmin spacing E L Eb Lb n S Q events packets since"
 # The fields of each word, then the kind of its data, if it takes any.
 NUMBERS = {
@@ -35,6 +35,7 @@ NUMBERS = {
     "add17": ("flag source burst gap mean var LEN", "bytes"), "add18": ("flag source burst gap LEN", "bytes"),
     "add240": ("source index LEN", "bytes"),
     "add241": ("source begin end streams c1 c2 c3 c4 c5 c6 c7 c8 LEN", "bytes"),
+    "add1": ("source begin LEN PACKETS", "bytes and trace"), "rle": ("k ROOM LEN", "bytes"),
     "card": ("", "card"), "write": ("gmin batch threshold spacing ROOM", None),
     "figures": ("event gmin spacing LEN", "trace"), "tally": ("event gmin spacing LEN", "trace"),
     "loss17": ("gmin spacing source flag LEN", "trace"), "discard18": ("gmin spacing source flag LEN", "trace"),
@@ -74,8 +75,8 @@ def parsed(line):
         return word, numbers, b""
     if kind == "card":
         return word, numbers, text.encode("latin-1")
-    if kind == "pair":
-        return word, numbers, pair_data(text, numbers[-2:])
+    if kind in ("pair", "bytes and trace"):
+        return word, numbers, pair_data(text, numbers[-2:], hexadecimal if kind == "pair" else trace_data)
     return word, numbers, sized(trace_data(text) if kind == "trace" else hexadecimal(text), numbers[-1])
 
 
@@ -84,11 +85,11 @@ def sized(data, size):
     return data + bytes(size - len(data))
 
 
-def pair_data(text, sizes):
-    """Two packets; both or the second may be left out."""
+def pair_data(text, sizes, second):
+    """Two packets, or a buffer and a trace; both or the second may be left out."""
     texts = text.split(" ")
     no_case_if(len(texts) > 2 or len(texts) == 2 and "" in texts)
-    return [sized(hexadecimal(some), size) for some, size in zip(texts + [""], sizes)]
+    return [sized(form(some), size) for form, some, size in zip((hexadecimal, second), texts + [""], sizes)]
 
 
 def trace_data(text):
@@ -111,6 +112,10 @@ def shown_bytes(some):
 
 def shown_plan(some):
     return shown("plan", [str(byte) for byte in some[:SHOWN_BYTES]], "")
+
+
+def shown_trace(some):
+    return shown("trace", [str(byte) for byte in some[:SHOWN_BYTES]], "")
 
 
 def shown_table(some):
@@ -146,6 +151,13 @@ def lending(word, numbers, data):
     """The cases that lend a buffer or an array."""
     if word in ADDED:
         return adding(word, numbers, data)
+    if word == "add1":
+        source, begin, *_ = numbers
+        return filled(list(data[0]), lambda: document02.with_trace(data[0], source, begin, data[1]), size_of, shown_bytes)
+    if word == "rle":
+        index, room, _ = numbers
+        return filled([HELD] * room, lambda: document02.read_out(index, data, room),
+                      lambda front: f"packets {len(front)}", shown_trace)
     if word == "new":
         return filled([HELD] * numbers[1], lambda: document01.new_packet(*numbers), size_of, shown_bytes)
     if word == "write":
@@ -203,7 +215,7 @@ def panel_needles(word, numbers, data):
 def answer(line):
     try:
         word, numbers, data = parsed(line)
-        if word in ADDED or word in ("new", "write", "list", "compare", "plan"):
+        if word in ADDED or word in ("new", "write", "list", "compare", "plan", "add1", "rle"):
             return lending(word, numbers, data)
         return asking(word, numbers, data)
     except NoCase:
