@@ -1,5 +1,9 @@
 -- `runs::whole_vector` meets its contract: sixteen ones, less those of the lost packets. Assumes nothing.
+use mathlib.Core.Path.{_≡_}
+use Prim.Native.Nat.{_+_, _*_, _/_}
 use native.Mathlib.Omega.{arith}
+use lib.ListN.{drop}
+use Rattle.runs.specs.Writing.{chunkFrom}
 use Rattle.runs.proofs.Fours.{whole-is}
 use borrow.Author.Needs.{needs}
 use Rattle.runs.proofs.whole_vector.Statement.{statement}
@@ -26,69 +30,38 @@ add-four-3 c = search needs
 four-requires-4 : tie.Need-four-requires-4
 four-requires-4 c κs = search needs
 
+-- the vector, and the bits of the lost that the fours give, are all ones
+taken : (c : tie.After-four4) →
+    let given = c .before .before .before .before .before .args in
+    chunkFrom (drop (given .first) (given .trace .now)) + (c .before .before .before .four .result * 2048 + c .before .before .four2 .result / 2 * 256 + c .before .four3 .result * 16 + c .four4 .result) ≡ 65535
+taken c =
+    let start = c .before .before .before .before .before in
+    rw (c .before .before .before .four .ensures, c .before .before .four2 .ensures, c .before .four3 .ensures, c .four4 .ensures)
+    (whole-is (start .args .trace .now) (start .args .first) (start .pre .0) (start .pre .1))
+
 mul-result : tie.Need-mul-result
-mul-result c =
-    let a = c .before .before .before .four .ensures in
-    let b = c .before .before .four2 .ensures in
-    let d = c .before .four3 .ensures in
-    let e = c .four4 .ensures in
-    omega (arith, whole-is (c .before .before .before .before .before .args .trace .now) (c .before .before .before .before .before .args .first) (c .before .before .before .before .before .pre .0) (c .before .before .before .before .before .pre .1))
+mul-result c = omega (arith, taken c)
 
 mul-result-2 : tie.Need-mul-result-2
-mul-result-2 c =
-    let a = c .before .before .before .four .ensures in
-    let b = c .before .before .four2 .ensures in
-    let d = c .before .four3 .ensures in
-    let e = c .four4 .ensures in
-    omega (arith, whole-is (c .before .before .before .before .before .args .trace .now) (c .before .before .before .before .before .args .first) (c .before .before .before .before .before .pre .0) (c .before .before .before .before .before .pre .1))
+mul-result-2 c = omega (arith, taken c)
 
 add-result : tie.Need-add-result
-add-result c =
-    let a = c .before .before .before .four .ensures in
-    let b = c .before .before .four2 .ensures in
-    let d = c .before .four3 .ensures in
-    let e = c .four4 .ensures in
-    omega (arith, whole-is (c .before .before .before .before .before .args .trace .now) (c .before .before .before .before .before .args .first) (c .before .before .before .before .before .pre .0) (c .before .before .before .before .before .pre .1))
+add-result c = omega (arith, taken c)
 
 mul-result-3 : tie.Need-mul-result-3
-mul-result-3 c =
-    let a = c .before .before .before .four .ensures in
-    let b = c .before .before .four2 .ensures in
-    let d = c .before .four3 .ensures in
-    let e = c .four4 .ensures in
-    omega (arith, whole-is (c .before .before .before .before .before .args .trace .now) (c .before .before .before .before .before .args .first) (c .before .before .before .before .before .pre .0) (c .before .before .before .before .before .pre .1))
+mul-result-3 c = omega (arith, taken c)
 
 add-result-2 : tie.Need-add-result-2
-add-result-2 c =
-    let a = c .before .before .before .four .ensures in
-    let b = c .before .before .four2 .ensures in
-    let d = c .before .four3 .ensures in
-    let e = c .four4 .ensures in
-    omega (arith, whole-is (c .before .before .before .before .before .args .trace .now) (c .before .before .before .before .before .args .first) (c .before .before .before .before .before .pre .0) (c .before .before .before .before .before .pre .1))
+add-result-2 c = omega (arith, taken c)
 
 add-result-3 : tie.Need-add-result-3
-add-result-3 c =
-    let a = c .before .before .before .four .ensures in
-    let b = c .before .before .four2 .ensures in
-    let d = c .before .four3 .ensures in
-    let e = c .four4 .ensures in
-    omega (arith, whole-is (c .before .before .before .before .before .args .trace .now) (c .before .before .before .before .before .args .first) (c .before .before .before .before .before .pre .0) (c .before .before .before .before .before .pre .1))
+add-result-3 c = omega (arith, taken c)
 
 sub-result : tie.Need-sub-result
-sub-result c =
-    let a = c .before .before .before .four .ensures in
-    let b = c .before .before .four2 .ensures in
-    let d = c .before .four3 .ensures in
-    let e = c .four4 .ensures in
-    omega (arith, whole-is (c .before .before .before .before .before .args .trace .now) (c .before .before .before .before .before .args .first) (c .before .before .before .before .before .pre .0) (c .before .before .before .before .before .pre .1))
+sub-result c = omega (arith, taken c)
 
 returns : tie.Need-returns
-returns c =
-    let a = c .before .before .before .four .ensures in
-    let b = c .before .before .four2 .ensures in
-    let d = c .before .four3 .ensures in
-    let e = c .four4 .ensures in
-    omega (arith, whole-is (c .before .before .before .before .before .args .trace .now) (c .before .before .before .before .before .args .first) (c .before .before .before .before .before .pre .0) (c .before .before .before .before .before .pre .1))
+returns c = omega (arith, taken c)
 
 pub whole-vector-spec : {M : Type 1} → statement M
 whole-vector-spec =
