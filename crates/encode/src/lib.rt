@@ -191,8 +191,8 @@ fn first_word(kind: u8, specific: u8, length: u16) -> u32
     halves(kind as u16 * 256 + specific as u16, length)
 }
 
-// Two 16-bit numbers side by side.
-fn halves(high: u16, low: u16) -> u32
+// Two 16-bit numbers side by side, as a word.
+pub fn halves(high: u16, low: u16) -> u32
     ensures { λ r. ⌜ r ≡ halves high low ⌝ }
 {
     high as u32 * 65_536 + low as u32

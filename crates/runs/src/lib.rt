@@ -12,7 +12,7 @@ ghost use Rattle.refusal.specs.Answer.{after};
 ghost use Rattle.wire.specs.BigEndian.{placed};
 ghost use Rattle.block.specs.Layouts.{traceOf};
 ghost use Rattle.block.specs.Reading.{readBytes};
-ghost use Rattle.encode.specs.Words.{halves, inBytes};
+ghost use Rattle.encode.specs.Words.{inBytes};
 ghost use Rattle.frame.specs.Packet.{packetOf};
 ghost use Rattle.compose.specs.Writing.{grown};
 ghost use Rattle.trace.specs.Trace.{lost};
@@ -94,7 +94,7 @@ fn write(out: &mut [u8], at: usize, source: u32, begin: u16, trace: &[u8])
     let words = word_count(trace.len());
     wire::put_u32(out, at, FIRST_WORD + (2 + words) as u32);
     wire::put_u32(out, at + 4, source);
-    wire::put_u32(out, at + 8, side_by_side(begin, end));
+    wire::put_u32(out, at + 8, encode::halves(begin, end));
     write_chunks(out, at + 12, words, trace);
 }
 
@@ -113,7 +113,7 @@ fn write_chunks(out: &mut [u8], at: usize, words: usize, trace: &[u8])
     let mut i = 0;
     while i < words {
         let first = WORD_PACKETS * i;
-        let word = side_by_side(
+        let word = encode::halves(
             chunk_at(trace, first),
             chunk_at(trace, first + chunk::VECTOR_BITS),
         );
@@ -170,11 +170,4 @@ fn vector(trace: &[u8], first: usize, n: usize) -> u16
         j += 1;
     }
     bits << (chunk::VECTOR_BITS - n)
-}
-
-// Two 16-bit numbers side by side.
-fn side_by_side(high: u16, low: u16) -> u32
-    ensures { λ r. ⌜ r ≡ halves high low ⌝ }
-{
-    high as u32 * 65_536 + low as u32
 }

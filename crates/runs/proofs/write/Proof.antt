@@ -37,8 +37,8 @@ put-u32-requires-2 c κs = search needs
 add-put-u32-4 : tie.Need-add-put-u32-4
 add-put-u32-4 c = search needs
 
-side-by-side-requires : tie.Need-side-by-side-requires
-side-by-side-requires c κs = search needs
+halves-requires : tie.Need-halves-requires
+halves-requires c κs = search needs
 
 put-u32-requires-3 : tie.Need-put-u32-requires-3
 put-u32-requires-3 c κs = search needs
@@ -61,7 +61,7 @@ same-length c = search needs
 returns : tie.Need-returns
 returns c =
     let start = c .before .before .before .before .before .before .before .before .before .before .before .before .before .before .before .before .before .before .before .before .before in
-    rle-stored _ _ _ _ _ _ _ _ _ _ _ _ _ (start .pre .0) (c .before .before .before .before .before .before .before .before .before .before .before .before .before .before .before .before .before .word-count .ensures) (c .before .before .before .before .before .before .before .before .before .before .before .before .before .before .before .before .before .before .wrapping-add-u16 .ensures) refl (c .before .before .before .before .before .before .before .side-by-side .ensures) (c .before .before .before .before .before .before .before .before .before .before .before .before .before .before .before .put-u32 .ensures) (c .before .before .before .before .before .before .before .before .before .before .before .put-u322 .ensures) (c .before .before .before .before .before .before .put-u323 .ensures) (c .before .before .write-chunks .ensures)
+    rle-stored _ _ _ _ _ _ _ _ _ _ _ _ _ (start .pre .0) (c .before .before .before .before .before .before .before .before .before .before .before .before .before .before .before .before .before .word-count .ensures) (c .before .before .before .before .before .before .before .before .before .before .before .before .before .before .before .before .before .before .wrapping-add-u16 .ensures) refl (c .before .before .before .before .before .before .before .halves .ensures) (c .before .before .before .before .before .before .before .before .before .before .before .before .before .before .before .put-u32 .ensures) (c .before .before .before .before .before .before .before .before .before .before .before .put-u322 .ensures) (c .before .before .before .before .before .before .put-u323 .ensures) (c .before .before .write-chunks .ensures)
 
 pub write-spec : {M : Type 1} → statement M
 write-spec =
@@ -77,7 +77,7 @@ write-spec =
     add-put-u32-3
     put-u32-requires-2
     add-put-u32-4
-    side-by-side-requires
+    halves-requires
     put-u32-requires-3
     add-write-chunks
     write-chunks-requires

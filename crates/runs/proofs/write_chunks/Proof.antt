@@ -37,8 +37,8 @@ add-chunk-at c = omega (arith, c .before .before .loop .inv .1)
 chunk-at-requires-2 : tie.Need-chunk-at-requires-2 Inv-loop μ-loop
 chunk-at-requires-2 c κs = c .before .before .before .before .before .pre .2
 
-side-by-side-requires : tie.Need-side-by-side-requires Inv-loop μ-loop
-side-by-side-requires c κs = search needs
+halves-requires : tie.Need-halves-requires Inv-loop μ-loop
+halves-requires c κs = search needs
 
 mul-put-u32 : tie.Need-mul-put-u32 Inv-loop μ-loop
 mul-put-u32 c = omega (arith, c .before .before .before .before .before .loop .inv .1)
@@ -61,7 +61,7 @@ loop-again c =
     let inv = side .before .before .before .before .loop .inv in
     let args = side .before .before .before .before .before .before .before .args in
     let i : ℕ = side .before .before .before .before .loop .i in
-    let word = side .side-by-side .ensures ∙ ap₂ halves (side .before .before .chunk-at .ensures) (side .before .chunk-at2 .ensures) ∙ sym (getD-words (args .words) i (args .trace .now) (omega arith)) in
+    let word = side .halves .ensures ∙ ap₂ halves (side .before .before .chunk-at .ensures) (side .before .chunk-at2 .ensures) ∙ sym (getD-words (args .words) i (args .trace .now) (omega arith)) in
     let stored = c .before .before .put-u32 .ensures ∙ ap (λ (w : ℕ). placed (side .before .before .before .before .loop .out) (args .at + 4 * i) (bytes32 w)) word in
     (stored-more _ _ _ _ _ _ (inv .0) _ (omega arith) stored, inv .1)
 
@@ -85,7 +85,7 @@ write-chunks-spec =
     chunk-at-requires
     add-chunk-at
     chunk-at-requires-2
-    side-by-side-requires
+    halves-requires
     mul-put-u32
     add-put-u32
     put-u32-requires
