@@ -69,7 +69,7 @@ Written-chunks =
     (source begin : ℕ) (s : List ℕ) → IsWithin intervalMax lost s → (i : ℕ) → i < length (chunksOf (inBytes (rleBody source begin s))) →
     Chunk s i (getD (chunksOf (inBytes (rleBody source begin s))) i 0)
 
--- "the number of chunks is the packets / 15 rounded up, made even"
+-- The number of chunks is the packets / 15 rounded up, made even.
 abbrev pub vectors : ℕ → ℕ
 vectors packets = (packets + 14) / 15
 

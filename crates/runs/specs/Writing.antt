@@ -32,7 +32,7 @@ wordsFrom (suc n) s = halves (chunkFrom s) (chunkFrom (drop vectorBits s)) ∷ w
 abbrev pub wordCount : ℕ → ℕ
 wordCount packets = (packets + 29) / 30
 
--- "end is begin plus the packets modulo 65,536"
+-- "The interval is end minus begin modulo 65,536": here the packets of the trace
 abbrev pub endOf : ℕ → List ℕ → ℕ
 endOf begin s = (begin + length s) % 65536
 
