@@ -12,19 +12,15 @@ use lib.ListN.{length, getD, drop, drop-of-length-le}
 use lib.Seq.{drop-cons}
 use Rattle.refusal.specs.Answer.{unless}
 use Rattle.refusal.specs.Table.{traceLength, traceByte}
-use Rattle.refusal.proofs.Tests.{both}
+use Rattle.refusal.proofs.Tests.{both, and-left, and-right}
 use Rattle.refusal.specs.declared.Judged.the-variants.{Accepted, Refused}
-use Rattle.trace.specs.Trace.{packetMax, traceMin, traceMax, lengthWithin, firstAbove, judgedWithin}
+use Rattle.trace.specs.Trace.{packetMax, traceMin, traceMax, packetsWithin, lengthWithin, firstAbove, judgedWithin}
 use Rattle.trace.specs.Laws.{IsWithin, Accepted-within, Accepted-trace, Within-accepted, Trace-accepted, First-above, First-bad}
 
 -- the length
-pub empty : (limit highest : ℕ) (s : List ℕ) → length s < traceMin → Refused traceLength ≡ judgedWithin limit highest s
-unfolding judgedWithin lengthWithin
-empty limit highest s h = rw (lt-leb traceMin (length s) h)
-
-pub too-long : (limit highest : ℕ) (s : List ℕ) → traceMin ≤ length s → limit < length s → Refused traceLength ≡ judgedWithin limit highest s
-unfolding judgedWithin lengthWithin
-too-long limit highest s l h = rw (le-leb traceMin (length s) l, lt-leb (length s) limit h)
+pub out-of-range : (limit highest : ℕ) (s : List ℕ) → packetsWithin limit (length s) ≡ false → Refused traceLength ≡ judgedWithin limit highest s
+unfolding judgedWithin
+out-of-range limit highest s h = rw h
 
 -- the first bad byte, one byte at a time
 bad-here : (highest packet : ℕ) (s : List ℕ) → highest < packet → firstAbove highest (packet ∷ s) ≡ 0
@@ -35,19 +31,23 @@ bad-later : (highest packet : ℕ) (s : List ℕ) → packet ≤ highest → fir
 unfolding firstAbove
 bad-later highest packet s h = rw (le-leb packet highest h)
 
-in-range : (limit : ℕ) (s : List ℕ) → traceMin ≤ length s → length s ≤ limit → lengthWithin limit s ≡ true
-unfolding lengthWithin
-in-range limit s some most = both (leb traceMin (length s)) (leb (length s) limit) (le-leb traceMin (length s) some) (le-leb (length s) limit most)
+pub in-range : (limit n : ℕ) → traceMin ≤ n → n ≤ limit → packetsWithin limit n ≡ true
+unfolding packetsWithin
+in-range limit n some most = both (leb traceMin n) (leb n limit) (le-leb traceMin n some) (le-leb n limit most)
+
+pub ranged : (limit n : ℕ) → packetsWithin limit n ≡ true → (traceMin ≤ n) × (n ≤ limit)
+unfolding packetsWithin
+ranged limit n h = (leb-true traceMin n (and-left (leb traceMin n) (leb n limit) h), leb-true n limit (and-right (leb traceMin n) (leb n limit) h))
 
 -- the bytes, once the length is in range
-module _ (limit highest : ℕ) (s : List ℕ) (some : traceMin ≤ length s) (most : length s ≤ limit) where
+module _ (limit highest : ℕ) (s : List ℕ) (range : packetsWithin limit (length s) ≡ true) where
   pub bad-byte : ltb (firstAbove highest s) (length s) ≡ true → Refused (traceByte (firstAbove highest s)) ≡ judgedWithin limit highest s
   unfolding judgedWithin
-  bad-byte h = rw (in-range limit s some most, lt-leb (length s) (firstAbove highest s) (ltb-true (firstAbove highest s) (length s) h))
+  bad-byte h = rw (range, lt-leb (length s) (firstAbove highest s) (ltb-true (firstAbove highest s) (length s) h))
 
   pub all-good : ltb (firstAbove highest s) (length s) ≡ false → Accepted ≡ judgedWithin limit highest s
   unfolding judgedWithin
-  all-good h = rw (in-range limit s some most, le-leb (length s) (firstAbove highest s) (ltb-false (firstAbove highest s) (length s) h))
+  all-good h = rw (range, le-leb (length s) (firstAbove highest s) (ltb-false (firstAbove highest s) (length s) h))
 
 -- what the first bad byte is
 before-bad : (highest : ℕ) (s : List ℕ) (i : ℕ) → i < firstAbove highest s → getD s i 0 ≤ highest
@@ -126,7 +126,7 @@ asked-all highest s found i a h = let end : i ≡ length s = omega (arith, a .wi
 
 -- what an accepted trace is
 pub accepted-within : (limit highest : ℕ) → Accepted-within limit highest
-unfolding judgedWithin lengthWithin
+unfolding judgedWithin packetsWithin
 accepted-within limit highest s h = go (leb traceMin (length s)) (leb (length s) limit) (leb (length s) (firstAbove highest s)) refl refl refl h
   where
     go : (a b g : Bool) → leb traceMin (length s) ≡ a → leb (length s) limit ≡ b → leb (length s) (firstAbove highest s) ≡ g →
@@ -146,7 +146,7 @@ unfolding judgedWithin
 within-accepted limit highest s h = go (leb (length s) (firstAbove highest s)) refl
   where
     go : (t : Bool) → leb (length s) (firstAbove highest s) ≡ t → unless (lengthWithin limit s) (Refused traceLength) (unless (leb (length s) (firstAbove highest s)) (Refused (traceByte (firstAbove highest s))) Accepted) ≡ Accepted
-    go true e = rw (in-range limit s (h .some) (h .most), e)
+    go true e = rw (in-range limit (length s) (h .some) (h .most), e)
     go false e =
         let l = leb-false (length s) (firstAbove highest s) e in
         let over = at-bad highest s l in

@@ -5,6 +5,7 @@ use Prim.Native.Nat.{ℕ, zero, suc, _+_, _-_, _<_, _≤_}
 use mathlib.Core.Path.{_≡_, refl, ap, _∙_}
 use mathlib.Core.Bool.{Bool, true, false}
 use native.Mathlib.Omega.{arith}
+use mir.Val.{boolByte}
 use native.Mathlib.Nat.{add-suc, add-zero, zero-add, add-assoc}
 use Rattle.trace.specs.Sum.{sum, bit, bits, count}
 
@@ -12,6 +13,12 @@ pub bit-le : (b : Bool) → bit b ≤ 1
 unfolding bit
 bit-le true = omega arith
 bit-le false = omega arith
+
+-- a test as the code adds it
+pub bool-bit : (x : Bool) → boolByte x ≡ bit x
+unfolding bit
+bool-bit true = refl
+bool-bit false = refl
 
 module _ (f : ℕ → ℕ) (start : ℕ) where
   pub sum-none : sum f start 0 ≡ 0
@@ -30,11 +37,15 @@ module _ (f : ℕ → ℕ) (start : ℕ) where
   pub sum-part : (m n : ℕ) → m ≤ n → sum f start m ≤ sum f start n
   sum-part m n h = let e : n ≡ m + (n - m) = omega arith in omega (arith, ap (sum f start) e, sum-cut m (n - m))
 
-module _ (f g : ℕ → ℕ) (start : ℕ) where
-  pub sum-same : (n : ℕ) → ((i : ℕ) → i < n → f (start + i) ≡ g (start + i)) → sum f start n ≡ sum g start n
+-- two sums that are the same position by position, from different positions on and from the same
+module _ (f g : ℕ → ℕ) (start other : ℕ) where
+  pub sum-moved : (n : ℕ) → ((i : ℕ) → i < n → f (start + i) ≡ g (other + i)) → sum f start n ≡ sum g other n
   unfolding sum
-  sum-same zero same = refl
-  sum-same (suc n) same = rw (sum-same n (λ i h. same i (omega arith)), same n (omega arith))
+  sum-moved zero same = refl
+  sum-moved (suc n) same = rw (sum-moved n (λ i h. same i (omega arith)), same n (omega arith))
+
+pub sum-same : (f g : ℕ → ℕ) (start n : ℕ) → ((i : ℕ) → i < n → f (start + i) ≡ g (start + i)) → sum f start n ≡ sum g start n
+sum-same f g start n same = sum-moved f g start start n same
 
 module _ (f g h : ℕ → ℕ) (start : ℕ) where
   pub sum-both : (n : ℕ) → ((i : ℕ) → i < n → f (start + i) ≡ g (start + i) + h (start + i)) → sum f start n ≡ sum g start n + sum h start n
@@ -61,6 +72,20 @@ unfolding sum bit
 count-all test start zero all = refl
 count-all test start (suc n) all =
     rw (all (start + n) (omega arith) (omega arith), count-all test start n (λ i l h. all i l (omega arith))) (omega arith)
+
+bit-false : (x : Bool) → bit x ≡ 0 → x ≡ false
+unfolding bit
+bit-false true e = absurd (omega arith)
+bit-false false e = refl
+
+-- where none is counted, none passes
+pub count-zero : (test : ℕ → Bool) (start n : ℕ) → count test start n ≡ 0 → (i : ℕ) → start ≤ i → i < start + n → test i ≡ false
+count-zero test start n none i l h =
+    let before : n ≡ (i - start) + (1 + (n - (i - start + 1))) = omega arith in
+    let place : start + (i - start) ≡ i = omega arith in
+    let rest = sum-cut (bits test) i 1 (n - (i - start + 1)) in
+    bit-false (test i)
+    (omega (arith, ap (count test start) before, sum-cut (bits test) start (i - start) (1 + (n - (i - start + 1))), ap (λ (k : ℕ). count test k (1 + (n - (i - start + 1)))) place, sum-one (bits test) i))
 
 -- f over the first n positions
 abbrev pub upTo : (ℕ → ℕ) → ℕ → ℕ

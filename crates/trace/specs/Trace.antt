@@ -39,9 +39,12 @@ countsAs Discarded packet = eqb packet discarded
 abbrev pub countedAt : Event → List ℕ → ℕ → Bool
 countedAt event s i = countsAs event (getD s i 0)
 
--- "trace empty or over 65,536" is not so, nor over another limit
-unfoldable pub lengthWithin : ℕ → List ℕ → Bool
-lengthWithin limit s = leb traceMin (length s) && leb (length s) limit
+-- "trace empty or over 65,536" is not so of so many packets, nor over another limit
+unfoldable pub packetsWithin : ℕ → ℕ → Bool
+packetsWithin limit packets = leb traceMin packets && leb packets limit
+
+abbrev pub lengthWithin : ℕ → List ℕ → Bool
+lengthWithin limit s = packetsWithin limit (length s)
 
 abbrev pub lengthInRange : List ℕ → Bool
 lengthInRange s = lengthWithin traceMax s

@@ -4,7 +4,7 @@ use refusal::Judged;
 ghost use mathlib.Core.Path.{_≡_};
 ghost use lib.Dec.{ltb};
 ghost use lib.ListN.{length};
-ghost use Rattle.trace.specs.Trace.{countsAs, firstAbove, judgedWithin, judged};
+ghost use Rattle.trace.specs.Trace.{countsAs, packetsWithin, firstAbove, judgedWithin, judged};
 
 pub const LOST: u8 = 1;
 
@@ -45,16 +45,20 @@ pub fn judge(trace: &[u8]) -> Judged
 pub fn judge_within(trace: &[u8], limit: usize, highest: u8) -> Judged
     ensures { λ r. ⌜ r ≡ judgedWithin limit highest (now (trace .entry)) ⌝ }
 {
-    if trace.len() < TRACE_MIN {
-        return Judged::Refused(refusal::TRACE_LENGTH);
-    }
-    if limit < trace.len() {
+    if !in_range(trace.len(), limit) {
         return Judged::Refused(refusal::TRACE_LENGTH);
     }
     if has_bad(trace, highest) {
         return Judged::Refused(refusal::trace_byte(first_bad(trace, highest)));
     }
     Judged::Accepted
+}
+
+// Whether so many packets are a trace's, with another limit on them too.
+pub fn in_range(packets: usize, limit: usize) -> bool
+    ensures { λ r. ⌜ r ≡ packetsWithin limit packets ⌝ }
+{
+    (TRACE_MIN <= packets) & (packets <= limit)
 }
 
 // Whether a byte is above the highest. Nothing leaves this loop early, so that it is compiled to many bytes a step.
