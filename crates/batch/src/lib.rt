@@ -16,7 +16,7 @@ ghost use Rattle.batch.specs.Stride.{stride};
 ghost use Rattle.batch.specs.Loss.{lossOf, lossAnswer};
 
 // The index of a loss of every batch.
-const FULL_LOSS: usize = 65_535;
+pub const FULL_LOSS: usize = 65_535;
 
 // A stride: so many batches one after the other, and as many packets that enter or leave on the way. Their losses fit a
 // byte, so that counting them is compiled to many packets a step.
@@ -29,15 +29,15 @@ pub enum First {
 }
 
 // The running count: a batch, by the index of its first packet, and its losses.
-struct Running {
-    start: usize,
-    losses: usize,
+pub struct Running {
+    pub start: usize,
+    pub losses: usize,
 }
 
 // The first batch over the threshold, and its losses where there is one.
-struct Reached {
-    first: First,
-    losses: usize,
+pub struct Reached {
+    pub first: First,
+    pub losses: usize,
 }
 
 // K batches of N are over the threshold; the index is K / N as a 16-bit fraction, 65,535 for all.
@@ -70,12 +70,19 @@ pub fn effective_loss(trace: &[u8], batch: u32, threshold: u32) -> LossRead
 pub fn judge(trace: &[u8], batch: u32, threshold: u32) -> Judged
     ensures { λ r. ⌜ r ≡ judgedFor (judged (now (trace .entry))) (length (now (trace .entry))) batch threshold ⌝ }
 {
+    judge_for(trace::judge(trace), trace.len(), batch, threshold)
+}
+
+// The same of an input in any form, by the verdict on it and its number of packets.
+pub fn judge_for(verdict: Judged, packets: usize, batch: u32, threshold: u32) -> Judged
+    ensures { λ r. ⌜ r ≡ judgedFor verdict packets batch threshold ⌝ }
+{
     if !settings::batch_in_range(batch, threshold) {
         return Judged::Refused(refusal::SETTING);
     }
-    match trace::judge(trace) {
+    match verdict {
         Judged::Accepted => {
-            if trace.len() < batch as usize {
+            if packets < batch as usize {
                 return Judged::Refused(refusal::BATCH_LENGTH);
             }
             Judged::Accepted

@@ -1,7 +1,7 @@
 -- `batch::counted` meets its contract: the test as a bit. Assumes nothing.
 use mathlib.Core.Path.{ap, _∙_}
 use Rattle.trace.specs.Sum.{bit}
-use Rattle.batch.proofs.Loops.{bool-bit}
+use Rattle.trace.proofs.Sums.{bool-bit}
 use borrow.Author.Needs.{needs}
 use Rattle.batch.proofs.counted.Statement.{statement}
 use Rattle.batch.proofs.counted.Tie as tie

@@ -1,16 +1,13 @@
 -- `batch::pass_under` meets its contract. The loop's invariant is `Under`. Assumes nothing.
-use Prim.Native.Nat.{ℕ, _+_, _-_, _≤_}
-use mathlib.Core.Path.{_≡_}
-use mathlib.Core.Bool.{Bool}
+use Prim.Native.Nat.{_-_, _≤_}
 use native.Mathlib.Omega.{arith}
 use borrow.Author.Needs.{needs}
 use lib.ListN.{length}
 use Rattle.trace.specs.Trace.{countedAt}
-use Rattle.batch.specs.Batches.{lossesIn}
 use Rattle.batch.specs.Stride.{stride}
 use Rattle.batch.proofs.Sliding.{Slid, slid, all-under}
 use Rattle.batch.proofs.Counting.{at-most}
-use Rattle.batch.proofs.Loops.{Under, under-first, under-more, under-small}
+use Rattle.batch.proofs.Loops.{Under, under-first, under-more, under-small, passed}
 use Rattle.batch.proofs.pass_under.Statement.{statement}
 use Rattle.batch.proofs.pass_under.Tie as tie
 
@@ -26,11 +23,6 @@ abbrev moved : (c : tie.After-losses-among2 Inv-loop μ-loop) →
     let l = c .before .before .before .before .loop in
     Slid (countedAt (a .event) (a .s .now)) (a .batch) (l .start) stride (l .losses) (c .before .before .losses-among .result) (c .losses-among2 .result)
 moved c = slid _ _ _ _ (c .before .before .before .before .loop .inv .0 .losses) _ _ _ (c .before .before .losses-among .ensures) (c .losses-among2 .ensures)
-
--- what is ensured, at either end of the loop
-ensured : (lost : ℕ → Bool) (e b t start held k : ℕ) → Under lost e b t start held k × (start ≤ k) →
-    ((start ≤ k) × (k + b ≤ e)) × ((held ≡ lossesIn lost b k) × ((j : ℕ) → start ≤ j → j ≤ k → lossesIn lost b j ≤ t))
-ensured lost e b t start held k (u, low) = ((low, u .within), (u .losses, u .under))
 
 sub-last : tie.Need-sub-last Inv-loop μ-loop
 sub-last c = omega arith
@@ -70,10 +62,10 @@ loop-less : tie.Need-loop-less Inv-loop μ-loop
 loop-less c = omega arith
 
 returns : tie.Need-returns Inv-loop μ-loop
-returns c = ensured _ _ _ _ _ _ _ (c .before .loop .inv)
+returns c = passed _ _ _ _ _ _ _ (c .before .loop .inv)
 
 returns-2 : tie.Need-returns-2 Inv-loop μ-loop
-returns-2 c = ensured _ _ _ _ _ _ _ (c .before .before .before .loop .inv)
+returns-2 c = passed _ _ _ _ _ _ _ (c .before .before .before .loop .inv)
 
 pub pass-under-spec : {M : Type 1} → statement M
 pass-under-spec =
