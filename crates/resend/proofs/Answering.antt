@@ -51,11 +51,11 @@ refused-unchanged verdict lost e b t buffer r h = rw h
 
 module _ (verdict : Judged) (lost : ℕ → Bool) (e b t : ℕ) (buffer : List ℕ) where
   -- a call's answer and buffer are what the promise says, and so demand 3 holds of it where it is asked
-  abbrev Promised : Planned → List ℕ → Type 0
+  abbrev pub Promised : Planned → List ℕ → Type 0
   Promised r out =
       (r ≡ planAnswer verdict lost e b t buffer) × ((out ≡ bufferAfter verdict lost e b t buffer) × (Plannable verdict e b t buffer → PlannedBest lost e b t buffer r out))
 
-  promised : (r : Planned) (out : List ℕ) → r ≡ planAnswer verdict lost e b t buffer → out ≡ bufferAfter verdict lost e b t buffer → Promised r out
+  pub promised : (r : Planned) (out : List ℕ) → r ≡ planAnswer verdict lost e b t buffer → out ≡ bufferAfter verdict lost e b t buffer → Promised r out
   promised r out is after = (is, (after, λ a. rw (is, after) (plan-best verdict lost e b t buffer a)))
 
   unchanged : (r : Refusal) → planAnswer verdict lost e b t buffer ≡ Refused r → Promised (Refused r) buffer

@@ -16,7 +16,7 @@ use Rattle.trace.specs.Sum.{bit, bits}
 use Rattle.trace.proofs.Sums.{sum-none, count-most, upTo, upTo-next}
 use Rattle.resend.specs.Plans.{marked, marks, left}
 use Rattle.resend.specs.Greedy.{windowAt, toMark, planOf}
-use Rattle.resend.specs.Steps.{leaving}
+use Rattle.resend.specs.Steps.{leaving, Filling}
 use Rattle.resend.proofs.Ahead.{one-of, passes, behind, before, held}
 use Rattle.resend.proofs.Greedy.{plan-length, plan-at, rule, mark-le}
 
@@ -60,22 +60,15 @@ module _ (lost : ℕ → Bool) (b t e : ℕ) (old : List ℕ) where
   abbrev kept : ℕ → ℕ
   kept = bits (left lost ours)
 
-  -- Before packet i: the plan of the packets before it stands, then the buffer as it was; `running` is what is
-  -- left among the last b packets, `so-far` the number of marks.
-  pub record Filling (out : List ℕ) (running so-far i : ℕ) : Type 0 where
-    pub least : 1 ≤ b
-    pub within : i ≤ e
-    pub room : e ≤ length old
-    pub list : out ≡ take i ours ++ drop i old
-    pub window : upTo kept i ≡ upTo kept (i - b) + running
-    pub counted : so-far ≡ upTo (bits (marked ours)) i
+  abbrev Before : List ℕ → ℕ → ℕ → ℕ → Type 0
+  Before out running so-far i = Filling lost b t e old out running so-far i
 
-  pub filling-none : 1 ≤ b → e ≤ length old → Filling old 0 0 0
+  pub filling-none : 1 ≤ b → e ≤ length old → Before old 0 0 0
   filling-none some h =
       let none : 0 - b ≡ 0 = omega arith in
       record { least = some; within = omega arith; room = h; list = refl; window = omega (arith, ap (upTo kept) none); counted = sym (sum-none (bits (marked ours)) 0) }
 
-  module _ (out : List ℕ) (running so-far i : ℕ) (f : Filling out running so-far i) where
+  module _ (out : List ℕ) (running so-far i : ℕ) (f : Before out running so-far i) where
     front-length : length (take i ours) ≡ i
     front-length = length-take-le i ours (omega (arith, f .within, plan-length lost b t e))
 
@@ -121,7 +114,7 @@ module _ (lost : ℕ → Bool) (b t e : ℕ) (old : List ℕ) where
     -- packet i enters behind r losses, marked or not
     module _ (r : ℕ) (is : r ≡ running - leaving lost b out i) where
       enters : i < e → (mark running′ so-far′ : ℕ) → mark ≡ getD ours i 0 → running′ ≡ r + kept i → so-far′ ≡ so-far + mark →
-          Filling (set out i mark) running′ so-far′ (i + 1)
+          Before (set out i mark) running′ so-far′ (i + 1)
       enters l mark running′ so-far′ m n k =
           rw add-one
           record {
@@ -141,7 +134,7 @@ module _ (lost : ℕ → Bool) (b t e : ℕ) (old : List ℕ) where
       few : r ≤ t
       few = omega (arith, is, f .window, held _ _ _ b t e (f .least) (rule lost b t e) i (f .within))
 
-      pub enters-fine : i < e → lost i ≡ false → Filling (set out i 0) r so-far (i + 1)
+      pub enters-fine : i < e → lost i ≡ false → Before (set out i 0) r so-far (i + 1)
       unfolding bit
       enters-fine l h =
           let none : bit (lost i) ≡ 0 = rw h in
@@ -151,7 +144,7 @@ module _ (lost : ℕ → Bool) (b t e : ℕ) (old : List ℕ) where
       pub mark-small : (n : ℕ) → n ≡ min (r + 1) t → r + 1 - n ≤ 1
       mark-small n least = omega (arith, few)
 
-      pub enters-lost : i < e → lost i ≡ true → (n : ℕ) → n ≡ min (r + 1) t → Filling (set out i (r + 1 - n)) n (so-far + (r + 1 - n)) (i + 1)
+      pub enters-lost : i < e → lost i ≡ true → (n : ℕ) → n ≡ min (r + 1) t → Before (set out i (r + 1 - n)) n (so-far + (r + 1 - n)) (i + 1)
       unfolding bit
       enters-lost l h n least =
           let same = is ∙ slid in

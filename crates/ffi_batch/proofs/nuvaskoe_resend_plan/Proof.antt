@@ -1,10 +1,7 @@
 -- `ffi_batch::nuvaskoe_resend_plan` meets its contract: the library's call, put into the struct. Assumes nothing.
-use Prim.Native.Nat.{ℕ}
-use mathlib.Core.Path.{_≡_, ap, _∙_}
-use Rattle.resend.specs.declared.Planned.{Planned}
-use Rattle.resend.specs.declared.Planned.the-variants.{Marks}
-use Rattle.ffi_batch.specs.declared.MarkCount.{MarkCount}
+use mathlib.Core.Path.{ap, _∙_}
 use Rattle.ffi_batch.specs.Answers.{marksOut}
+use Rattle.ffi_batch.proofs.Marks.{counted}
 use borrow.Author.Needs.{needs}
 use Rattle.ffi_batch.proofs.nuvaskoe_resend_plan.Statement.{statement}
 use Rattle.ffi_batch.proofs.nuvaskoe_resend_plan.Tie as tie
@@ -17,10 +14,6 @@ marks-out-requires c κs = search needs
 
 same-length : tie.Need-same-length
 same-length c = search needs
-
--- the count of a plan that was made
-counted : (r : MarkCount) (p : Planned) (n : ℕ) → r ≡ marksOut p → p ≡ Marks n → r .marks ≡ n
-counted r p n out is = rw (out, is)
 
 returns : tie.Need-returns
 returns c = (

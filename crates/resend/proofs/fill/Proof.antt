@@ -6,7 +6,8 @@ use native.Mathlib.Omega.{arith}
 use borrow.Author.Needs.{needs}
 use lib.ListN.{length}
 use Rattle.trace.specs.Trace.{countedAt}
-use Rattle.resend.proofs.Filling.{Filling, filling-none, filling-length, filling-small, slid-some, slid-small, marks-lost, mark-small, enters-lost, enters-fine, filling-all}
+use Rattle.resend.specs.Steps.{Filling}
+use Rattle.resend.proofs.Filling.{filling-none, filling-length, filling-small, slid-some, slid-small, marks-lost, mark-small, enters-lost, enters-fine, filling-all}
 use Rattle.resend.proofs.fill.Statement.{statement}
 use Rattle.resend.proofs.fill.Tie as tie
 
