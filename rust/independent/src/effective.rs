@@ -40,17 +40,28 @@ pub fn running_effective_loss(
     threshold: u64,
 ) -> Result<EffectiveLoss, Refusal> {
     check(trace, batch, threshold)?;
-    let (threshold, after) = (threshold as i32, &trace[batch as usize..]);
-    let batches = after.len() as u64 + 1;
-    let mut changes = trace
+    let (first, after) = trace.split_at(batch as usize);
+    let changes = trace
         .iter()
         .zip(after)
         .map(|(left, come)| i32::from(is_lost(*come)) - i32::from(is_lost(*left)));
-    let mut lost = losses(&trace[..batch as usize]) as i32;
+    let lost = losses(first) as i32;
+    Ok(carried_on(lost, changes, threshold as i32))
+}
+
+/// The answer for a first batch with so many lost and as many more batches as there are changes,
+/// each with the losses of the batch before it and its change.
+#[inline]
+pub(crate) fn carried_on(
+    mut lost: i32,
+    mut changes: impl ExactSizeIterator<Item = i32>,
+    threshold: i32,
+) -> EffectiveLoss {
+    let batches = changes.len() as u64 + 1;
     let mut first = 0;
     while lost <= threshold {
         let Some(change) = changes.next() else {
-            return Ok(answer(0, batches, None));
+            return answer(0, batches, None);
         };
         lost += change;
         first += 1;
@@ -60,7 +71,7 @@ pub fn running_effective_loss(
         lost += change;
         over += u32::from(lost > threshold);
     }
-    Ok(answer(u64::from(over), batches, Some(first)))
+    answer(u64::from(over), batches, Some(first))
 }
 
 /// The checks of a call that takes a trace, B and T.

@@ -20,7 +20,7 @@ impl Refusal {
     pub const PADDING: Refusal = Refusal::without_place(5);
     /// no block with that index; reading out, also one that is not a good type 1
     pub const NO_SUCH_BLOCK: Refusal = Refusal::without_place(7);
-    /// buffer shorter than the result needs
+    /// buffer shorter than the result needs; a word slice too short to read
     pub const BUFFER_SHORT: Refusal = Refusal::without_place(8);
     /// trace empty or over 65,536; a tally at 65,536 given one more; a trace to write as type 1
     /// over 65,533
@@ -49,7 +49,8 @@ impl Refusal {
     }
 
     /// trace byte above 2, or such a byte given to a tally; above 1 in a trace to write as
-    /// type 1; its place is the first bad byte's index in a trace
+    /// type 1 or to pack; its place is the first bad byte's index in a trace; a nonzero bit past
+    /// the end of a packed trace, at the bit's index
     pub const fn trace_byte(index: usize) -> Refusal {
         Refusal {
             number: 9,

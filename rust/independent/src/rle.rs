@@ -5,6 +5,7 @@ use crate::block::{self, Reading};
 use crate::compose;
 use crate::packet;
 use crate::refusal::Refusal;
+use crate::trace;
 use std::mem;
 
 /// "RFC 3611's limit" of an interval.
@@ -165,7 +166,8 @@ static EIGHT: [[u8; 8]; 256] = {
 #[inline]
 pub fn add(buffer: &mut [u8], source: u32, begin: u16, trace: &[u8]) -> Result<usize, Refusal> {
     let size = compose::held(buffer)?;
-    check(trace)?;
+    // 10 for "a trace empty or over 65,533", then 9 "with 2 counted as bad".
+    trace::check_up_to(trace, MOST_PACKETS, 1)?;
     let vectors = trace.len().div_ceil(VECTOR);
     // Source, begin and end, then two chunks a word.
     let words = 2 + vectors.div_ceil(2);
@@ -187,19 +189,6 @@ pub fn add(buffer: &mut [u8], source: u32, begin: u16, trace: &[u8]) -> Result<u
     }
     null.fill(0);
     Ok(new_size)
-}
-
-/// Refuses with 10 for "a trace empty or over 65,533", then 9 "with 2 counted as bad".
-fn check(trace: &[u8]) -> Result<(), Refusal> {
-    if trace.is_empty() || trace.len() > MOST_PACKETS {
-        return Err(Refusal::TRACE_LENGTH);
-    }
-    // Whether there is a bad byte is found faster than its place.
-    if trace.iter().fold(0, |all, byte| all | byte) <= 1 {
-        return Ok(());
-    }
-    let bad = trace.iter().position(|byte| *byte > 1);
-    Err(Refusal::trace_byte(bad.expect("a bit is set above 1")))
 }
 
 /// The last packets with lost ones after them: "unused bits zero".

@@ -28,14 +28,20 @@ impl Event {
 
 /// Refuses with 10, then 9.
 pub fn check(trace: &[u8]) -> Result<(), Refusal> {
-    if trace.is_empty() || trace.len() > MOST_PACKETS {
+    check_up_to(trace, MOST_PACKETS, 2)
+}
+
+/// Refuses with 10 for a trace that is empty or over `packets`, then 9 for a byte above `highest`.
+#[inline]
+pub(crate) fn check_up_to(trace: &[u8], packets: usize, highest: u8) -> Result<(), Refusal> {
+    if trace.is_empty() || trace.len() > packets {
         return Err(Refusal::TRACE_LENGTH);
     }
     // The largest byte is found faster than a place, which only a bad trace has.
-    if trace.iter().fold(0, |most, byte| most.max(*byte)) <= 2 {
+    if trace.iter().fold(0, |most, byte| most.max(*byte)) <= highest {
         return Ok(());
     }
-    let bad = trace.iter().position(|byte| *byte > 2);
+    let bad = trace.iter().position(|byte| *byte > highest);
     Err(Refusal::trace_byte(bad.expect("the largest byte is bad")))
 }
 
