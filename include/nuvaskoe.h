@@ -537,6 +537,38 @@ nuvaskoe_marks nuvaskoe_resend_plan(const uint8_t *trace, size_t trace_len, uint
                                     uint8_t *out, size_t out_len);
 
 /*
+ * A packed trace: 64 packets a word, packet i in word i / 64 at bit i modulo 64 (bit 0 is the lowest), 1 for a lost packet and 0
+ * for a received one; it has no discarded packets. The bits of the last needed word that are past the end are 0. Words behind
+ * that one are neither read nor changed. The refusals of the words, in this order: 10, so many packets are none or over 65,536;
+ * 8, there are fewer words than they need; 9, a bit past the end is not 0, placed at the first one by its index, counted on from
+ * the packets.
+ */
+
+/*
+ * Packs a trace into the front of out: a word for each 64 packets, the last one filled up with zeros. A good call answers how
+ * many words these are; the words after them keep what they held. Refusals: 10, 9 for a byte other than 0 and 1, 8.
+ */
+nuvaskoe_written nuvaskoe_trace_pack(const uint8_t *trace, size_t trace_len, uint64_t *out, size_t out_len);
+
+/*
+ * Unpacks the words of so many packets into the front of out: a byte a packet, 0 received and 1 lost. A good call answers how
+ * many packets these are; the bytes after them keep what they held. Refusals: those of the words, then 8 for out.
+ */
+nuvaskoe_written nuvaskoe_trace_unpack(const uint64_t *words, size_t words_len, size_t packets, uint8_t *out,
+                                       size_t out_len);
+
+/* The effective loss of a packed trace. Refusals: 15, those of the words, 14. */
+nuvaskoe_loss nuvaskoe_packed_loss(const uint64_t *words, size_t words_len, size_t packets, uint32_t batch,
+                                   uint32_t threshold);
+
+/*
+ * Writes the smallest resend plan of a packed trace into the front of out, one byte a packet, as nuvaskoe_resend_plan does.
+ * Refusals: 15, those of the words, 14, 8 for out.
+ */
+nuvaskoe_marks nuvaskoe_packed_plan(const uint64_t *words, size_t words_len, size_t packets, uint32_t batch,
+                                    uint32_t threshold, uint8_t *out, size_t out_len);
+
+/*
  * The front panel: two needles, burst and gap, and a lamp, as one block sets them. Shown is a block 17 or 18 that is given as
  * a value or was read as typed, where adding it to a packet would not be refused with 16: each needle is lit at its rate, or
  * dark where that is unavailable. Everything else leaves both needles dark and the lamp off: a refused packet or index, and a

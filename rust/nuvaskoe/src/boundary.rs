@@ -280,6 +280,10 @@ extern "C" {
     pub(crate) fn nuvaskoe_tally_block(tally: Tally, source: u32, flag: u8) -> Summary;
     pub(crate) fn nuvaskoe_effective_loss(trace: *const u8, trace_len: usize, batch: u32, threshold: u32) -> Loss;
     pub(crate) fn nuvaskoe_resend_plan(trace: *const u8, trace_len: usize, batch: u32, threshold: u32, out: *mut u8, out_len: usize) -> Marks;
+    pub(crate) fn nuvaskoe_trace_pack(trace: *const u8, trace_len: usize, out: *mut u64, out_len: usize) -> Written;
+    pub(crate) fn nuvaskoe_trace_unpack(words: *const u64, words_len: usize, packets: usize, out: *mut u8, out_len: usize) -> Written;
+    pub(crate) fn nuvaskoe_packed_loss(words: *const u64, words_len: usize, packets: usize, batch: u32, threshold: u32) -> Loss;
+    pub(crate) fn nuvaskoe_packed_plan(words: *const u64, words_len: usize, packets: usize, batch: u32, threshold: u32, out: *mut u8, out_len: usize) -> Marks;
     pub(crate) fn nuvaskoe_panel_of_packet(packet: *const u8, packet_len: usize, index: usize) -> Panel;
     pub(crate) fn nuvaskoe_panel_of_read(block: Block) -> Panel;
     pub(crate) fn nuvaskoe_panel_of_loss(block: LossSummary) -> Panel;

@@ -1,0 +1,2 @@
+pub mod Differing
+pub mod Levels

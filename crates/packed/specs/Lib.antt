@@ -1,0 +1,3 @@
+pub mod Words
+pub mod Judging
+pub mod Laws

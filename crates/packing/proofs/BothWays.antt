@@ -1,0 +1,138 @@
+-- "Conversion goes both ways for traces without discards.": specs/Laws.antt. Assumes nothing.
+use Prim.Native.Nat.{ℕ, zero, suc, _+_, _*_, _/_, _%_, _^_, _<_, _≤_}
+use mathlib.Core.Path.{_≡_, refl, sym, ap, ap₂, _∙_}
+use mathlib.Core.Bool.{Bool, true, false}
+use mathlib.Core.List.{List, [], _∷_, _++_}
+use native.Mathlib.Omega.{arith}
+use native.Mathlib.Nat.{add-zero, zero-add, suc-add, div-one, mod-eq-of-lt}
+use native.Mathlib.Decide.{decLt}
+use lib.Dec.{eqb}
+use lib.ListN.{length, getD, take, drop, length-append, List·getD-append}
+use lib.Seq.{take-suc, take-at, getD-at}
+use Rattle.refusal.specs.declared.Written.the-variants.{Size}
+use Rattle.trace.specs.Sum.{bit}
+use Rattle.trace.specs.Trace.{lost, traceMax, countedAt, countsAs}
+use Rattle.trace.specs.Laws.{IsWithin}
+use Rattle.trace.specs.declared.Event.the-variants.{Lost}
+use Rattle.trace.proofs.Sums.{bit-le}
+use Rattle.trace.proofs.Judging.{within-accepted}
+use Rattle.packed.specs.Words.{wordBits, oneAt, lostAt, wordsFor, numberOf, bytesOf}
+use Rattle.packed.proofs.Numbers.{number-at, number-same}
+use Rattle.packed.proofs.Windows.{lost-word, part-word}
+use Rattle.packed.proofs.Bytes.{length-bytes, getD-bytes, bytes-same}
+use Rattle.packed.proofs.Laws.{packed-accepted}
+use Rattle.packing.specs.Packing.{wordsUpTo, wordsOf}
+use Rattle.packing.specs.Laws.{packedInto, unpackedInto, Packed-form, Pack-unpack, Unpack-pack}
+use Rattle.packing.specs.Steps.{Bits}
+use Rattle.packing.proofs.Octets.{packet-bit}
+use Rattle.packing.proofs.Words.{length-words, none-past}
+use Rattle.packing.proofs.Answers.{within-bits, pack-done, unpack-done}
+
+-- a bit is a packet that is lost or not
+bit-lost : (x : Bool) → eqb (bit x) lost ≡ x
+unfolding bit
+bit-lost true = refl
+bit-lost false = refl
+
+-- word k of the words of packets, and its packets
+getD-words : (f : ℕ → Bool) (n k : ℕ) → k < n → getD (wordsUpTo f n) k 0 ≡ numberOf f (wordBits * k) wordBits
+unfolding wordsUpTo
+getD-words f zero k h = absurd (omega arith)
+getD-words f (suc n) k h = go (decLt k n) (getD-words f n k)
+  where
+    go : Dec (k < n) → (k < n → getD (wordsUpTo f n) k 0 ≡ numberOf f (wordBits * k) wordBits) → getD (wordsUpTo f (suc n)) k 0 ≡ numberOf f (wordBits * k) wordBits
+    go (yes l) before = List·getD-append (wordsUpTo f n) (numberOf f (wordBits * n) wordBits ∷ []) 0 k (omega (arith, length-words f n)) ∙ before l
+    go (no l) before =
+        let here : k ≡ n = omega arith in
+        rw here (getD-at (wordsUpTo f n) (numberOf f (wordBits * n) wordBits) [] 0 n (length-words f n))
+
+packets-of-words : (f : ℕ → Bool) (n : ℕ) (rest : List ℕ) (i : ℕ) → i < wordBits * n → lostAt (wordsUpTo f n ++ rest) i ≡ f i
+unfolding oneAt
+packets-of-words f n rest i h =
+    let q : ℕ = i / wordBits in
+    let r : ℕ = i % wordBits in
+    let at : wordBits * q + r ≡ i = omega arith in
+    let word = List·getD-append (wordsUpTo f n) rest 0 q (omega (arith, length-words f n)) ∙ getD-words f n q (omega arith) in
+    ap (lostAt (wordsUpTo f n ++ rest)) (sym at) ∙ lost-word (wordsUpTo f n ++ rest) q r (omega arith) ∙ ap (λ (w : ℕ). oneAt w r) word
+    ∙ ap (λ (d : ℕ). eqb d 1) (number-at f (wordBits * q) wordBits r (omega arith)) ∙ bit-lost (f (wordBits * q + r)) ∙ ap f at
+
+-- the bytes of a trace's packets are the trace
+bytes-of : (s : List ℕ) → Bits s → bytesOf (countedAt Lost s) 0 (length s) ≡ s
+unfolding bytesOf
+bytes-of [] b = refl
+bytes-of (packet ∷ s) b =
+    let here = packet-bit (packet ∷ s) b 0 in
+    let rest = bytes-same (countedAt Lost (packet ∷ s)) (countedAt Lost s) 1 0 (length s) (λ j h. rw (suc-add 0 j)) in
+    ap₂ (λ (x : ℕ) (l : List ℕ). x ∷ l) here (rest ∙ bytes-of s (λ i. b (suc i)))
+
+-- and back: the packets of such bytes
+packets-of-bytes : (f : ℕ → Bool) (n i : ℕ) → i < n → countedAt Lost (bytesOf f 0 n) i ≡ f i
+unfolding countsAs
+packets-of-bytes f n i h = ap (λ (p : ℕ). eqb p lost) (getD-bytes f 0 n i h ∙ ap (λ (k : ℕ). bit (f k)) (zero-add i)) ∙ bit-lost (f i)
+
+-- the words of the packets of words, which are of 64 bits, are those words
+words-of : (f : ℕ → Bool) (words : List ℕ) (n : ℕ) → n ≤ length words → ((k : ℕ) → getD words k 0 < 2 ^ 64) → ((i : ℕ) → i < wordBits * n → f i ≡ lostAt words i) →
+    wordsUpTo f n ≡ take n words
+unfolding wordsUpTo
+words-of f words zero h fits same = refl
+words-of f words (suc n) h fits same =
+    let word : numberOf f (wordBits * n) wordBits ≡ getD words n 0 =
+    number-same f (lostAt words) (wordBits * n) (wordBits * n) wordBits (λ j l. same (wordBits * n + j) (omega arith))
+    ∙ ap (λ (i : ℕ). numberOf (lostAt words) i wordBits) (sym (add-zero (wordBits * n))) ∙ part-word words n 0 wordBits (omega arith)
+    ∙ ap (λ (w : ℕ). w % 2 ^ 64) (div-one (getD words n 0)) ∙ mod-eq-of-lt (fits n)
+    in
+    ap₂ (λ (l : List ℕ) (w : ℕ). l ++ (w ∷ [])) (words-of f words n (omega arith) fits (λ i l. same i (omega arith))) word ∙ sym (take-suc words n 0 (omega arith))
+
+pub packed-form : Packed-form
+packed-form s buffer t enough =
+    let f = countedAt Lost s in
+    let n : ℕ = wordsFor (length s) in
+    let packed = pack-done s buffer (within-accepted traceMax lost s t) enough in
+    let words : List ℕ = packedInto s buffer in
+    let same : (i : ℕ) → i < wordBits * n → lostAt words i ≡ f i =
+    λ i h. ap (λ (l : List ℕ). lostAt l i) (sym (packed .1)) ∙ packets-of-words f n (drop n buffer) i h
+    in
+    let long : length words ≡ n + length (drop n buffer) = ap length (sym (packed .1)) ∙ length-append (wordsUpTo f n) (drop n buffer) ∙ ap (λ (k : ℕ). k + length (drop n buffer)) (length-words f n) in
+    record {
+      packed = record { some = t .some; most = t .most; enough = omega arith; zero = λ i past h. same i h ∙ none-past s i past };
+      same = λ i h. same i (omega arith);
+    }
+
+pub pack-unpack : Pack-unpack
+pack-unpack s buffer room t enough fits =
+    let words : List ℕ = packedInto s buffer in
+    let form = packed-form s buffer t enough in
+    let unpacked = unpack-done words (length s) room (packed-accepted words (length s) (form .packed)) fits in
+    let bytes : bytesOf (lostAt words) 0 (length s) ≡ s =
+    bytes-same (lostAt words) (countedAt Lost s) 0 0 (length s) (λ j h. rw (zero-add j) (form .same j h)) ∙ bytes-of s (within-bits traceMax s t)
+    in (
+      sym (pack-done s buffer (within-accepted traceMax lost s t) enough .0),
+      sym (unpacked .0),
+      sym (unpacked .1) ∙ ap (λ (l : List ℕ). l ++ drop (length s) room) bytes,
+    )
+
+pub unpack-pack : Unpack-pack
+unpack-pack words room buffer packets word-fits p fits enough =
+    let f = lostAt words in
+    let n : ℕ = wordsFor packets in
+    let bytes : List ℕ = bytesOf f 0 packets in
+    let long : length bytes ≡ packets = length-bytes f 0 packets in
+    let unpacked = unpack-done words packets room (packed-accepted words packets p) fits in
+    let taken : bytes ≡ take packets (unpackedInto words packets room) = sym (ap (take packets) (sym (unpacked .1)) ∙ take-at bytes (drop packets room) packets long) in
+    let t : IsWithin traceMax lost bytes =
+    record {
+      some = let some = p .some in omega arith;
+      most = let most = p .most in omega arith;
+      each = λ i h. rw (getD-bytes f 0 packets i (omega arith)) (bit-le (f (0 + i)));
+    }
+    in
+    let packed = pack-done bytes buffer (within-accepted traceMax lost bytes t) (rw long enough) in
+    let same : (i : ℕ) → i < wordBits * n → countedAt Lost bytes i ≡ f i =
+    λ i h. elim (decLt i packets) [ yes l ↦ packets-of-bytes f packets i l | no l ↦ none-past bytes i (omega arith) ∙ sym (p .zero i (omega arith) h) ]
+    in
+    let all : wordsUpTo (countedAt Lost bytes) n ≡ take n words = words-of (countedAt Lost bytes) words n (p .enough) word-fits same in
+    rw (← taken) (
+      sym (unpacked .0),
+      sym (packed .0) ∙ ap (λ (k : ℕ). Size (wordsFor k)) long,
+      sym (packed .1) ∙ ap (λ (k : ℕ). wordsOf (countedAt Lost bytes) k ++ drop (wordsFor k) buffer) long ∙ ap (λ (l : List ℕ). l ++ drop n buffer) all,
+    )

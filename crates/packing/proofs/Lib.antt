@@ -1,0 +1,5 @@
+pub mod Octets
+pub mod Placing
+pub mod Words
+pub mod Answers
+pub mod BothWays

@@ -1,0 +1,3 @@
+pub mod Packing
+pub mod Steps
+pub mod Laws
