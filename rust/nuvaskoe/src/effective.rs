@@ -35,15 +35,22 @@ pub fn effective_loss(trace: &[u8], batch: u32, threshold: u32) -> Result<Effect
     // SAFETY: a slice's pointer is never null and is good for reading its length.
     let answer =
         unsafe { boundary::nuvaskoe_effective_loss(trace.as_ptr(), trace.len(), batch, threshold) };
-    // What the header says of answers and no answer in Rust shows.
-    debug_assert!(answer.refusal.number == 0 || (answer.over, answer.batches) == (0, 0));
-    debug_assert!(answer.refusal.number == 0 || (answer.index, answer.found) == (0, 0));
-    debug_assert!(answer.found == 1 || (answer.found, answer.first) == (0, 0));
-    let index = u16::try_from(answer.index).expect("an index has 16 bits");
-    answer.refusal.unless_refused(EffectiveLoss {
-        over: answer.over,
-        batches: answer.batches,
-        index: EffectiveIndex(index),
-        first: (answer.found == 1).then_some(answer.first),
-    })
+    answer.effective_loss()
+}
+
+impl boundary::Loss {
+    /// The answer of a call that counts batches.
+    pub(crate) fn effective_loss(self) -> Result<EffectiveLoss, Refusal> {
+        // What the header says of answers and no answer in Rust shows.
+        debug_assert!(self.refusal.number == 0 || (self.over, self.batches) == (0, 0));
+        debug_assert!(self.refusal.number == 0 || (self.index, self.found) == (0, 0));
+        debug_assert!(self.found == 1 || (self.found, self.first) == (0, 0));
+        let index = u16::try_from(self.index).expect("an index has 16 bits");
+        self.refusal.unless_refused(EffectiveLoss {
+            over: self.over,
+            batches: self.batches,
+            index: EffectiveIndex(index),
+            first: (self.found == 1).then_some(self.first),
+        })
+    }
 }

@@ -96,3 +96,13 @@ impl boundary::Refusal {
         }
     }
 }
+
+impl boundary::Written {
+    /// How much of a lent buffer is the result.
+    #[inline]
+    fn size(self) -> Result<usize, Refusal> {
+        // What the header says of refused answers and no answer in Rust shows.
+        debug_assert!(self.refusal.number == 0 || self.size == 0);
+        self.refusal.unless_refused(self.size)
+    }
+}

@@ -85,7 +85,7 @@ pub fn list(packet: &[u8], out: &mut [u32]) -> Result<usize, Refusal> {
     let answer = unsafe {
         boundary::nuvaskoe_packet_list(packet.as_ptr(), packet.len(), out.as_mut_ptr(), out.len())
     };
-    written(answer)
+    answer.size()
 }
 
 /// Writes a packet with this sender and no blocks into the first 8 bytes of `out` and
@@ -96,7 +96,7 @@ pub fn list(packet: &[u8], out: &mut [u32]) -> Result<usize, Refusal> {
 pub fn new(sender: u32, out: &mut [u8]) -> Result<usize, Refusal> {
     // SAFETY: a slice's pointer is never null, and `out` lends all its length for writing.
     let answer = unsafe { boundary::nuvaskoe_packet_new(sender, out.as_mut_ptr(), out.len()) };
-    written(answer)
+    answer.size()
 }
 
 /// Adds a block to the packet at the front of `out`, which may be longer than the packet,
@@ -143,11 +143,5 @@ pub fn add(out: &mut [u8], block: &Block) -> Result<usize, Refusal> {
             }
         }
     };
-    written(answer)
-}
-
-/// The size in an answer about a lent buffer.
-fn written(answer: boundary::Written) -> Result<usize, Refusal> {
-    debug_assert!(answer.refusal.number == 0 || answer.size == 0);
-    answer.refusal.unless_refused(answer.size)
+    answer.size()
 }

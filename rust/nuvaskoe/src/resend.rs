@@ -32,6 +32,14 @@ pub fn plan(trace: &[u8], batch: u32, threshold: u32, out: &mut [u8]) -> Result<
             out.len(),
         )
     };
-    debug_assert!(answer.refusal.number == 0 || answer.marks == 0);
-    answer.refusal.unless_refused(answer.marks)
+    answer.marks()
+}
+
+impl boundary::Marks {
+    /// How many packets a plan marks.
+    pub(crate) fn marks(self) -> Result<usize, Refusal> {
+        // What the header says of refused answers and no answer in Rust shows.
+        debug_assert!(self.refusal.number == 0 || self.marks == 0);
+        self.refusal.unless_refused(self.marks)
+    }
 }

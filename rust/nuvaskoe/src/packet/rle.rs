@@ -1,6 +1,6 @@
 //! Loss RLE, blocks of type 1: traces read out of them, and added to a packet as one.
 
-use super::{block, written};
+use super::block;
 use crate::{block::Verdict, boundary, Refusal};
 
 /// Reads the trace of block number `index`, a good type 1, into the front of `out`: one byte a
@@ -31,7 +31,7 @@ pub fn rle(packet: &[u8], index: usize, out: &mut [u8]) -> Result<usize, Refusal
             out.len(),
         )
     };
-    written(answer)
+    answer.size()
 }
 
 /// The same trace in a vector of its own.
@@ -83,5 +83,5 @@ pub fn add_rle(out: &mut [u8], source: u32, begin: u16, trace: &[u8]) -> Result<
             trace.len(),
         )
     };
-    written(answer)
+    answer.size()
 }
