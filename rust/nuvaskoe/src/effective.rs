@@ -1,7 +1,8 @@
 //! Effective loss: how many batches of a trace lose more than a threshold.
 //!
 //! A trace has one byte a packet: 0 received, 1 lost, 2 discarded, which is no loss. Batches
-//! are all runs of `batch` consecutive packets.
+//! are all runs of `batch` consecutive packets. [`packed`](crate::packed) has the same of a trace
+//! with one bit a packet.
 
 use crate::{boundary, values::EffectiveIndex, Refusal};
 

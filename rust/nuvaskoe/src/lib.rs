@@ -26,6 +26,7 @@ mod boundary;
 pub mod card;
 pub mod effective;
 pub mod figures;
+pub mod packed;
 pub mod packet;
 pub mod panel;
 #[rustfmt::skip]

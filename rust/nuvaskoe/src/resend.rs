@@ -1,7 +1,8 @@
 //! The resend plan: the fewest lost packets to resend so that no batch of a trace is left
 //! with more losses than a threshold.
 //!
-//! Traces and batches are those of [`effective`](crate::effective).
+//! Traces and batches are those of [`effective`](crate::effective). [`packed`](crate::packed) has
+//! the same of a trace with one bit a packet.
 
 use crate::{boundary, Refusal};
 

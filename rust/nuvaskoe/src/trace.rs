@@ -1,4 +1,5 @@
 //! Traces: one byte a packet, 0 received, 1 lost, 2 discarded, from 1 to 65,536 packets.
+//! [`packed`](crate::packed) has those without discarded packets in one bit a packet.
 
 use crate::boundary;
 
