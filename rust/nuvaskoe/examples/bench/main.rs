@@ -20,6 +20,8 @@
 //!   lost packets, `out` reads its trace out of a packet, and `add` adds a trace as such a block;
 //! - traces, a byte a packet: `figs` gives the burst figures, `plan` the resend plan and
 //!   `loss` effective loss; in rows "B x by B y" both times are ours, with batches of x and y;
+//! - packed traces, a bit a packet: `pack` and `unpack` a trace, `loss` and `plan` as above; in rows
+//!   "packed by bytes" both times are ours, of the trace packed and in bytes;
 //! - tallies: `open`, `take` one packet and `close`, after as many packets as there are bytes
 //!   in the row; `tally` is all three over the trace named, each packet taken in turn;
 //! - `block` makes the block of a trace, of a tally or of figures;
@@ -32,6 +34,7 @@ mod batches;
 mod cards;
 mod comparing;
 mod measuring;
+mod packed;
 mod panels;
 mod reading;
 mod runs;
@@ -76,14 +79,14 @@ fn nanoseconds<T>(call: &mut impl FnMut() -> T, repeats: u32) -> f64 {
 
 fn print(input: &str, bytes: usize, call: &str, (ours, independent): (f64, f64)) {
     println!(
-        "{input:<29} {bytes:>7} {call:<5} {ours:>12.1} {independent:>12.1} {:>7.2}",
+        "{input:<34} {bytes:>7} {call:<6} {ours:>12.1} {independent:>12.1} {:>7.2}",
         ours / independent
     );
 }
 
 fn main() {
     println!(
-        "{:<29} {:>7} {:<5} {:>12} {:>12} {:>7}",
+        "{:<34} {:>7} {:<6} {:>12} {:>12} {:>7}",
         "input", "bytes", "call", "ours ns", "indep. ns", "ratio"
     );
     cards::time();
@@ -95,5 +98,6 @@ fn main() {
     measuring::time(&traces);
     tallies::time(&traces);
     batches::time();
+    packed::time();
     panels::time();
 }

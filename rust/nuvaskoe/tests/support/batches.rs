@@ -35,12 +35,7 @@ pub const SETTINGS: [u32; 14] = [
 /// The effective loss on which both agree, the independent one in its two forms.
 pub fn loss_both(trace: &[u8], batch: u32, threshold: u32) -> Answer<EffectiveLoss> {
     let library = nuvaskoe::effective::effective_loss(trace, batch, threshold);
-    let library = ours(library).map(|loss| EffectiveLoss {
-        over: loss.over as u64,
-        batches: loss.batches as u64,
-        index: loss.index.0,
-        first: loss.first,
-    });
+    let library = ours(library).map(independent_loss);
     assert!(
         raw::effective_loss(trace, batch, threshold) == whole_loss(&library),
         "{library:?}: {}",
@@ -61,8 +56,18 @@ pub fn loss_both(trace: &[u8], batch: u32, threshold: u32) -> Answer<EffectiveLo
     library
 }
 
+/// A library's answer as the independent one has it.
+pub fn independent_loss(loss: nuvaskoe::effective::EffectiveLoss) -> EffectiveLoss {
+    EffectiveLoss {
+        over: loss.over as u64,
+        batches: loss.batches as u64,
+        index: loss.index.0,
+        first: loss.first,
+    }
+}
+
 /// The whole answer of the boundary: all after the refusal is 0 where refused.
-fn whole_loss(answer: &Answer<EffectiveLoss>) -> Loss {
+pub fn whole_loss(answer: &Answer<EffectiveLoss>) -> Loss {
     let number = |part: fn(&EffectiveLoss) -> u64| answer.as_ref().map_or(0, part);
     let first = answer.map_or(None, |loss| loss.first);
     Loss {
@@ -93,15 +98,20 @@ pub fn plan_into(
     let shown = || shown(trace, batch, threshold);
     assert!(library == independent, "{library:?}: {}", shown());
     assert!(library_out == independent_out, "{}", shown());
-    let marks = Marks {
-        refusal: refused(&independent),
-        marks: independent.unwrap_or(0),
-    };
+    let marks = whole_marks(&independent);
     assert!(whole == marks, "{whole:?}: {}", shown());
     assert!(whole_out == independent_out, "{}", shown());
     let written = library.map_or(0, |_| trace.len());
     assert!(library_out[written..] == before[written..], "{}", shown());
     (library, library_out)
+}
+
+/// The whole answer of the boundary to a plan.
+pub fn whole_marks(answer: &Answer<usize>) -> Marks {
+    Marks {
+        refusal: refused(answer),
+        marks: answer.unwrap_or(0),
+    }
 }
 
 /// The same into a buffer of `length` bytes that hold a pattern.

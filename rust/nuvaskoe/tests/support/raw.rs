@@ -143,6 +143,37 @@ pub fn resend_plan(trace: &[u8], batch: u32, threshold: u32, out: &mut [u8]) -> 
     unsafe { boundary::nuvaskoe_resend_plan(start, length, batch, threshold, out, room) }
 }
 
+pub fn trace_pack(trace: &[u8], out: &mut [u64]) -> Written {
+    let (start, length) = (trace.as_ptr(), trace.len());
+    // SAFETY: as above.
+    unsafe { boundary::nuvaskoe_trace_pack(start, length, out.as_mut_ptr(), out.len()) }
+}
+
+pub fn trace_unpack(words: &[u64], packets: usize, out: &mut [u8]) -> Written {
+    let (start, length) = (words.as_ptr(), words.len());
+    let (out, room) = (out.as_mut_ptr(), out.len());
+    // SAFETY: as above.
+    unsafe { boundary::nuvaskoe_trace_unpack(start, length, packets, out, room) }
+}
+
+pub fn packed_loss(words: &[u64], packets: usize, batch: u32, threshold: u32) -> Loss {
+    let (start, length) = (words.as_ptr(), words.len());
+    // SAFETY: as above.
+    unsafe { boundary::nuvaskoe_packed_loss(start, length, packets, batch, threshold) }
+}
+
+pub fn packed_plan(
+    words: &[u64],
+    packets: usize,
+    (batch, threshold): (u32, u32),
+    out: &mut [u8],
+) -> Marks {
+    let (start, length) = (words.as_ptr(), words.len());
+    let (out, room) = (out.as_mut_ptr(), out.len());
+    // SAFETY: as above.
+    unsafe { boundary::nuvaskoe_packed_plan(start, length, packets, batch, threshold, out, room) }
+}
+
 pub fn panel_of_packet(packet: &[u8], index: usize) -> Panel {
     // SAFETY: as above.
     unsafe { boundary::nuvaskoe_panel_of_packet(packet.as_ptr(), packet.len(), index) }

@@ -5,6 +5,7 @@
 mod batches;
 mod cards;
 mod measuring;
+mod packed;
 mod panels;
 mod reading;
 mod runs;
@@ -70,6 +71,7 @@ pub fn calls() -> Vec<Call> {
     calls.extend(runs::calls());
     calls.extend(measuring::calls());
     calls.extend(batches::calls());
+    calls.extend(packed::calls());
     calls.extend(panels::calls());
     calls
 }
