@@ -108,6 +108,28 @@ static void check_traces(void)
     CHECK(refused(nuvaskoe_resend_plan(&lost, 1, 1, 0, NULL, 0).refusal, NUVASKOE_REFUSAL_BUFFER_SHORT));
 }
 
+/* Words, the trace that they are packed from or unpacked to, and a plan. */
+static void check_packed(void)
+{
+    const uint8_t lost = 1;
+    const uint64_t word = 1;
+    uint64_t held_word = 7;
+    uint8_t held = 7;
+
+    CHECK(refused(nuvaskoe_trace_pack(NULL, 0, NULL, 0).refusal, NUVASKOE_REFUSAL_TRACE_LENGTH));
+    CHECK(refused(nuvaskoe_trace_pack(NULL, 0, &held_word, 1).refusal, NUVASKOE_REFUSAL_TRACE_LENGTH));
+    CHECK(refused(nuvaskoe_trace_pack(&lost, 1, NULL, 0).refusal, NUVASKOE_REFUSAL_BUFFER_SHORT));
+    CHECK(refused(nuvaskoe_trace_unpack(NULL, 0, 0, NULL, 0).refusal, NUVASKOE_REFUSAL_TRACE_LENGTH));
+    CHECK(refused(nuvaskoe_trace_unpack(NULL, 0, 1, &held, 1).refusal, NUVASKOE_REFUSAL_BUFFER_SHORT));
+    CHECK(refused(nuvaskoe_trace_unpack(&word, 1, 1, NULL, 0).refusal, NUVASKOE_REFUSAL_BUFFER_SHORT));
+    CHECK(refused(nuvaskoe_packed_loss(NULL, 0, 0, 1, 0).refusal, NUVASKOE_REFUSAL_TRACE_LENGTH));
+    CHECK(refused(nuvaskoe_packed_loss(NULL, 0, 1, 1, 0).refusal, NUVASKOE_REFUSAL_BUFFER_SHORT));
+    CHECK(refused(nuvaskoe_packed_plan(NULL, 0, 1, 1, 0, NULL, 0).refusal, NUVASKOE_REFUSAL_BUFFER_SHORT));
+    CHECK(refused(nuvaskoe_packed_plan(NULL, 0, 1, 1, 0, &held, 1).refusal, NUVASKOE_REFUSAL_BUFFER_SHORT));
+    CHECK(refused(nuvaskoe_packed_plan(&word, 1, 1, 1, 0, NULL, 0).refusal, NUVASKOE_REFUSAL_BUFFER_SHORT));
+    CHECK(held == 7 && held_word == 7);
+}
+
 int main(void)
 {
     check_reading();
@@ -116,5 +138,6 @@ int main(void)
     check_writing();
     check_runs();
     check_traces();
+    check_packed();
     return checked("empty.c");
 }
