@@ -22,7 +22,7 @@ HELD = 7  # what each lent byte or entry holds before the call
 # The greatest number that a field holds, by the field's name; any other field holds 32 bits.
 LIMITS = {"type": 255, "specific": 255, "flag": 255, "packet": 255, "first": 65535, "begin": 65535, "end": 65535,
           "burst": 65535, "gap": 65535, "mean": 65535, "var": 65535, "index": 65535, "LEN": 262144, "ROOM": 262144,
-          "ENTRIES": 262144, "NUMBERS": 262144, "PACKETS": 262144}
+          "ENTRIES": 262144, "NUMBERS": 262144, "PACKETS": 262144, "WORDS": 262144}
 TALLY = "event gmin spacing E L Eb Lb n S Q events packets since"
 # The fields of each word, then the kind of its data, if it takes any.
 NUMBERS = {
@@ -41,10 +41,14 @@ NUMBERS = {
     "loss17": ("gmin spacing source flag LEN", "trace"), "discard18": ("gmin spacing source flag LEN", "trace"),
     "close": (TALLY, None), "tallyblock": (TALLY + " source flag", None), "take": (TALLY + " packet", None),
     "loss": ("B T LEN", "trace"), "plan": ("B T ROOM LEN", "trace"),
+    "pack": ("WORDS LEN", "trace"), "unpack": ("packets ROOM WORDS", "words"),
+    "packedloss": ("packets B T WORDS", "words"), "packedplan": ("packets B T ROOM WORDS", "words"),
 }
 # Type, whether a flag comes first, and where the rates stand.
 ADDED = {"add14": (14, False, ()), "add17": (17, True, (2, 3)), "add18": (18, True, (2, 3)), "add240": (240, False, ()),
          "add241": (241, False, ())}
+# The other words whose cases lend a buffer, an array or words.
+LENDING = ("new", "write", "list", "compare", "plan", "add1", "rle", "pack", "unpack", "packedplan")
 
 
 class NoCase(Exception):
@@ -77,6 +81,8 @@ def parsed(line):
         return word, numbers, text.encode("latin-1")
     if kind in ("pair", "bytes and trace"):
         return word, numbers, pair_data(text, numbers[-2:], hexadecimal if kind == "pair" else trace_data)
+    if kind == "words":
+        return word, numbers, words_data(text, numbers[-1])
     return word, numbers, sized(trace_data(text) if kind == "trace" else hexadecimal(text), numbers[-1])
 
 
@@ -90,6 +96,13 @@ def pair_data(text, sizes, second):
     texts = text.split(" ")
     no_case_if(len(texts) > 2 or len(texts) == 2 and "" in texts)
     return [sized(form(some), size) for form, some, size in zip((hexadecimal, second), texts + [""], sizes)]
+
+
+def words_data(text, count):
+    """Words of sixteen digits, and zero words up to so many in all."""
+    data = sized(hexadecimal(text), 8 * count)
+    no_case_if(len(text) % 16)
+    return [int.from_bytes(data[at:at + 8], "big") for at in range(0, len(data), 8)]
 
 
 def trace_data(text):
@@ -126,6 +139,10 @@ def shown_numbers(some):
     return shown("numbers", [str(number) for number in some[:SHOWN_NUMBERS]], " ")
 
 
+def shown_words(some):
+    return shown("packed", [f"{word:016x}" for word in some[:SHOWN_ENTRIES]], " ")
+
+
 def filled(lent, call, answer, show):
     """A call that fills the lent numbers from the front: its answer or refusal, and what they then hold."""
     try:
@@ -139,6 +156,10 @@ def size_of(front):
     return f"size {len(front)}"
 
 
+def marks_of(front):
+    return f"marks {sum(front)}"
+
+
 def adding(word, numbers, buffer):
     kind, flagged, rates_at = ADDED[word]
     flag = numbers[0] if flagged else 0
@@ -148,7 +169,7 @@ def adding(word, numbers, buffer):
 
 
 def lending(word, numbers, data):
-    """The cases that lend a buffer or an array."""
+    """The cases that lend a buffer, an array or words."""
     if word in ADDED:
         return adding(word, numbers, data)
     if word == "add1":
@@ -168,9 +189,17 @@ def lending(word, numbers, data):
     if word == "compare":
         return filled([HELD] * numbers[0], lambda: document02.differences(*data, numbers[0]),
                       lambda front: f"differences {len(front) // 5}", shown_numbers)
+    if word == "pack":
+        return filled([HELD] * numbers[0], lambda: document02.packed(data, numbers[0]), lambda front: f"words {len(front)}", shown_words)
+    if word == "unpack":
+        packets, room, _ = numbers
+        return filled([HELD] * room, lambda: document02.unpacked(data, packets, room),
+                      lambda front: f"packets {len(front)}", shown_trace)
+    if word == "packedplan":
+        *given, room, _ = numbers
+        return filled([HELD] * room, lambda: document02.packed_plan(data, *given, room), marks_of, shown_plan)
     batch, threshold, room, _ = numbers
-    return filled([HELD] * room, lambda: document01.plan(batch, threshold, data, room),
-                  lambda front: f"marks {sum(front)}", shown_plan)
+    return filled([HELD] * room, lambda: document01.plan(batch, threshold, data, room), marks_of, shown_plan)
 
 
 def asking(word, numbers, data):
@@ -189,6 +218,8 @@ def asking(word, numbers, data):
         return document01.card(data)
     if word == "loss":
         return document01.loss(numbers[0], numbers[1], data)
+    if word == "packedloss":
+        return document02.packed_loss(data, *numbers[:3])
     if word == "figures":
         return document01.figures(*numbers[:3], data)
     if word == "loss17":
@@ -215,7 +246,7 @@ def panel_needles(word, numbers, data):
 def answer(line):
     try:
         word, numbers, data = parsed(line)
-        if word in ADDED or word in ("new", "write", "list", "compare", "plan", "add1", "rle"):
+        if word in ADDED or word in LENDING:
             return lending(word, numbers, data)
         return asking(word, numbers, data)
     except NoCase:

@@ -1,13 +1,15 @@
 //! What the library answers to each case. A number that its field cannot hold is no case.
 
-use crate::line::Case;
+use crate::line::{Case, WORD};
 use crate::shown;
-use nuvaskoe::block::{self, Block, Discard, Effective, Loss, Measurement, TransportStream};
+use nuvaskoe::block::{
+    self, Block, Discard, Effective, Loss, Measurement, Reading, TransportStream,
+};
 use nuvaskoe::card::{self, Settings};
 use nuvaskoe::tally::{Stretch, Sums, Tally};
 use nuvaskoe::trace::Event;
 use nuvaskoe::values::{EffectiveIndex, Figure, Rate};
-use nuvaskoe::{effective, figures, packet, panel, resend, Refusal};
+use nuvaskoe::{effective, figures, packed, packet, panel, resend, Refusal};
 
 /// What a lent byte or entry holds before the call.
 const HELD: u8 = 7;
@@ -25,15 +27,9 @@ pub fn answer(case: &Case) -> Option<String> {
         "body" => body(n[0], data),
         "list" => list(n[0], data),
         "compare" => compare(n[0], data.split_at(n[1] as usize)),
-        "alone" => {
-            let (block_type, specific) = (u8::try_from(n[0]).ok()?, u8::try_from(n[1]).ok()?);
-            shown::line(0, &block::read(block_type, specific, data), data.len())
-        }
+        "alone" => shown::line(0, &alone(n, data)?, data.len()),
         "panel" => shown::panel(&panel::of_packet(data, n[0] as usize)),
-        "panelalone" => {
-            let (block_type, specific) = (u8::try_from(n[0]).ok()?, u8::try_from(n[1]).ok()?);
-            shown::panel(&panel::of_reading(&block::read(block_type, specific, data)))
-        }
+        "panelalone" => shown::panel(&panel::of_reading(&alone(n, data)?)),
         "panel17" | "panel18" => shown::panel(&panel::of_block(&given(case.word, n)?)),
         "rle" => read_out(n[0], n[1], data),
         "add1" => adding_trace(n, data)?,
@@ -46,11 +42,20 @@ pub fn answer(case: &Case) -> Option<String> {
             )
         }),
         "write" => lending(n[4], |lent| card::write(settings(n), lent)),
-        "loss" | "plan" => batches(case.word, n, data),
+        "loss" => shown::or_refused(effective::effective_loss(data, n[0], n[1]), shown::loss),
+        "plan" => planning(n[2], |lent| resend::plan(data, n[0], n[1], lent)),
+        "pack" => packing(n[0], data),
+        "unpack" | "packedloss" | "packedplan" => of_words(case.word, n, data),
         "figures" | "tally" | "close" | "tallyblock" | "take" => measured(case.word, n, data)?,
         "loss17" | "discard18" => reported(case.word, n, data)?,
         _ => adding(case.word, n, data)?,
     })
+}
+
+/// A block read by itself.
+fn alone(n: &[u32], body: &[u8]) -> Option<Reading> {
+    let (block_type, specific) = (u8::try_from(n[0]).ok()?, u8::try_from(n[1]).ok()?);
+    Some(block::read(block_type, specific, body))
 }
 
 fn settings(n: &[u32]) -> Settings {
@@ -103,19 +108,37 @@ fn compare(numbers: u32, (first, second): (&[u8], &[u8])) -> String {
     shown::or_refused(answer, |count| format!("differences {count}")) + &shown::numbers(&lent)
 }
 
-fn batches(word: &str, n: &[u32], trace: &[u8]) -> String {
-    if word == "plan" {
-        let mut lent = vec![HELD; n[2] as usize];
-        let answer = resend::plan(trace, n[0], n[1], &mut lent);
-        return shown::or_refused(answer, |marks| format!("marks {marks}")) + &shown::plan(&lent);
+/// A call that plans into lent bytes.
+fn planning(room: u32, call: impl FnOnce(&mut [u8]) -> Result<usize, Refusal>) -> String {
+    let mut lent = vec![HELD; room as usize];
+    let answer = shown::or_refused(call(&mut lent), |marks| format!("marks {marks}"));
+    answer + &shown::plan(&lent)
+}
+
+fn packing(room: u32, trace: &[u8]) -> String {
+    let mut lent = vec![u64::from(HELD); room as usize];
+    let answer = packed::pack(trace, &mut lent);
+    shown::or_refused(answer, |words| format!("words {words}")) + &shown::words(&lent)
+}
+
+/// The three calls on words, of which the first number is how many packets they hold.
+fn of_words(word: &str, n: &[u32], data: &[u8]) -> String {
+    let words = data.chunks_exact(WORD).map(|word| word.try_into());
+    let words = words.map(|word| u64::from_be_bytes(word.expect("eight bytes")));
+    let (words, packets) = (words.collect::<Vec<u64>>(), n[0] as usize);
+    match word {
+        "unpack" => {
+            let mut lent = vec![HELD; n[1] as usize];
+            let answer = packed::unpack(&words, packets, &mut lent);
+            let answer = shown::or_refused(answer, |packets| format!("packets {packets}"));
+            answer + &shown::trace(&lent)
+        }
+        "packedplan" => planning(n[3], |lent| packed::plan(&words, packets, n[1], n[2], lent)),
+        _ => {
+            let loss = packed::effective_loss(&words, packets, n[1], n[2]);
+            shown::or_refused(loss, shown::loss)
+        }
     }
-    shown::or_refused(effective::effective_loss(trace, n[0], n[1]), |loss| {
-        let first = loss
-            .first
-            .map_or("none".to_string(), |first| first.to_string());
-        let (over, batches, index) = (loss.over, loss.batches, loss.index);
-        format!("over {over} of {batches} index {index} first {first}")
-    })
 }
 
 /// Figures of a trace, by one call or by a tally, and tallies made of their numbers. The first

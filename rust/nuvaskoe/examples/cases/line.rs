@@ -3,12 +3,13 @@
 /// The most bytes, packets or entries of a case: the bytes of the longest packet.
 const MOST: u32 = 262_144;
 
-/// What follows the numbers. The last number is the size of bytes and of a trace; the last two
-/// are those of two packets, or of bytes and a trace, which a space parts.
+/// What follows the numbers. The last number is the size of bytes, of words and of a trace; the last
+/// two are those of two packets, or of bytes and a trace, which a space parts.
 #[derive(Clone, Copy, PartialEq)]
 enum Data {
     Nothing,
     Bytes,
+    Words,
     Pair,
     BytesAndTrace,
     Trace,
@@ -16,7 +17,7 @@ enum Data {
 }
 
 /// Each word, how many numbers it takes, which of them are sizes, and its data.
-const WORDS: [(&str, usize, &[usize], Data); 29] = [
+const WORDS: [(&str, usize, &[usize], Data); 33] = [
     ("read", 1, &[0], Data::Bytes),
     ("block", 2, &[1], Data::Bytes),
     ("body", 2, &[1], Data::Bytes),
@@ -46,7 +47,36 @@ const WORDS: [(&str, usize, &[usize], Data); 29] = [
     ("take", 14, &[], Data::Nothing),
     ("loss", 3, &[2], Data::Trace),
     ("plan", 4, &[2, 3], Data::Trace),
+    ("pack", 2, &[0, 1], Data::Trace),
+    ("unpack", 3, &[1, 2], Data::Words),
+    ("packedloss", 4, &[3], Data::Words),
+    ("packedplan", 5, &[3, 4], Data::Words),
 ];
+
+/// The bytes of a word, the highest first.
+pub const WORD: usize = 8;
+
+impl Data {
+    /// The bytes of a text, as many as the numbers say.
+    fn read(self, text: &[u8], numbers: &[u32]) -> Option<Vec<u8>> {
+        Some(match (self, numbers) {
+            (Data::Bytes, [.., size]) => sized(hexadecimal(text)?, *size)?,
+            (Data::Words, [.., count]) => words(hexadecimal(text)?, *count)?,
+            (Data::Trace, [.., size]) => sized(trace(text)?, *size)?,
+            (Data::Pair, [.., size, other]) => {
+                let (first, second) = two(text)?;
+                let (first, second) = (hexadecimal(first)?, hexadecimal(second)?);
+                [sized(first, *size)?, sized(second, *other)?].concat()
+            }
+            (Data::BytesAndTrace, [.., size, packets]) => {
+                let (bytes, packet) = two(text)?;
+                let (bytes, packet) = (hexadecimal(bytes)?, trace(packet)?);
+                [sized(bytes, *size)?, sized(packet, *packets)?].concat()
+            }
+            _ => text.to_vec(),
+        })
+    }
+}
 
 /// A case, or none where the line is none.
 pub struct Case {
@@ -74,21 +104,7 @@ impl Case {
             return None;
         }
         let text = rest.unwrap_or_default();
-        let data = match (kind, &numbers[..]) {
-            (Data::Bytes, [.., size]) => sized(hexadecimal(text)?, *size)?,
-            (Data::Trace, [.., size]) => sized(trace(text)?, *size)?,
-            (Data::Pair, [.., size, other]) => {
-                let (first, second) = two(text)?;
-                let (first, second) = (hexadecimal(first)?, hexadecimal(second)?);
-                [sized(first, *size)?, sized(second, *other)?].concat()
-            }
-            (Data::BytesAndTrace, [.., size, packets]) => {
-                let (bytes, packet) = two(text)?;
-                let (bytes, packet) = (hexadecimal(bytes)?, trace(packet)?);
-                [sized(bytes, *size)?, sized(packet, *packets)?].concat()
-            }
-            _ => text.to_vec(),
-        };
+        let data = kind.read(text, &numbers)?;
         Some(Case {
             word,
             numbers,
@@ -111,6 +127,12 @@ fn sized(mut data: Vec<u8>, size: u32) -> Option<Vec<u8>> {
     let fits = data.len() <= size;
     data.resize(size, 0);
     fits.then_some(data)
+}
+
+/// Whole words, as many as this: zero words follow in the same way.
+fn words(data: Vec<u8>, count: u32) -> Option<Vec<u8>> {
+    let is_whole = data.len() % WORD == 0;
+    is_whole.then(|| sized(data, WORD as u32 * count))?
 }
 
 /// The text before the first space, and what follows it.

@@ -1,11 +1,12 @@
 //! Answers as the text of worked cases has them.
 
 use nuvaskoe::block::{Block, Reading, Verdict};
+use nuvaskoe::effective::EffectiveLoss;
 use nuvaskoe::figures::Figures;
 use nuvaskoe::panel::{Needle, Panel};
 use nuvaskoe::Refusal;
 
-/// The most bytes, marks or packets, the most entries, and the most numbers of differences, that are shown.
+/// The most bytes, marks or packets, the most entries or words, and the most numbers of differences, that are shown.
 const BYTES: usize = 64;
 const ENTRIES: usize = 16;
 const NUMBERS: usize = 100;
@@ -41,6 +42,15 @@ pub fn numbers(lent: &[u32]) -> String {
     labelled("numbers", decimals(lent, NUMBERS))
 }
 
+pub fn words(lent: &[u64]) -> String {
+    let front: Vec<_> = lent
+        .iter()
+        .take(ENTRIES)
+        .map(|w| format!("{w:016x}"))
+        .collect();
+    labelled("packed", front.join(" "))
+}
+
 fn decimals(lent: &[u32], most: usize) -> String {
     let front: Vec<_> = lent.iter().take(most).map(u32::to_string).collect();
     front.join(" ")
@@ -55,6 +65,14 @@ pub fn figures(figures: Figures) -> String {
     let (burst, gap) = (figures.burst_rate, figures.gap_rate);
     let (mean, variance) = (figures.mean, figures.variance);
     format!("burst {burst} gap {gap} mean {mean} var {variance}")
+}
+
+pub fn loss(loss: EffectiveLoss) -> String {
+    let first = loss
+        .first
+        .map_or("none".to_string(), |first| first.to_string());
+    let (over, batches, index) = (loss.over, loss.batches, loss.index);
+    format!("over {over} of {batches} index {index} first {first}")
 }
 
 /// Each needle by the bits of its position.
