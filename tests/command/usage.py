@@ -26,6 +26,7 @@ def check_usage(_):
                        ("runs", "FILE and K are needed"),
                        ("card read", "TEXT is missing"),
                        ("figures", "TRACE is missing"), ("loss", "TRACE is missing"), ("plan", "TRACE is missing"),
+                       ("pack", "TRACE is missing"), ("unpack", "FILE and PACKETS are needed"),
                        ("report", "TRACE is missing"), ("explain", "N is missing")]:
         Run(*job.split()).wrong(fewer, f"usage: nuvaskoe {job}")
         assert Run(*job.split(), "--help").text() == Run("help", *job.split()).text()
@@ -183,7 +184,7 @@ def check_pages(folder):
     script = folder / "completion"
     script.write_text(Run("help", "--completion").text())
     names = re.findall(r"^  (\S+(?: \S+)?)  ", Run("help").text().split("\n\n")[2], re.M)
-    assert re.findall(r"^\.SS (.*)$", page, re.M) == names and len(names) == 12, (names, page)
+    assert re.findall(r"^\.SS (.*)$", page, re.M) == names and len(names) == 14, (names, page)
     assert re.findall(r"^\.B (D?\d+)$", page, re.M) == [*map(str, range(1, 18)), "D1", "D2", "D3", "D4", "D5"], page
     if shutil.which("groff"):
         shown = subprocess.run(["groff", "-man", "-ww", "-Tascii"], input=page, capture_output=True, text=True, check=True)
@@ -191,7 +192,8 @@ def check_pages(folder):
     for typed, completed in [("fi", "figures"), ("card m", "make"), ("card ''", "read make"), ("plan -", "--card --gmin"),
                              ("card make --s", "--spacing"), ("plan ''", ""), ("list x ''", ""), ("help lo", "loss"), ("zz", ""),
                              ("figures --form ''", "bytes digits"), ("com", "compare"), ("compare a -", "--json"), ("dials x -", "-o --json"),
-                             ("ru", "runs"), ("runs x 1 -", "-o --json"), ("report --r", "--runs")]:
+                             ("ru", "runs"), ("runs x 1 -", "-o --json"), ("report --r", "--runs"), ("pa", "pack"), ("un", "unpack"),
+                             ("loss --p", "--packed"), ("plan --p", "--packed"), ("pack x -", "--form -o --json"), ("unpack x 9 -", "-o --json")]:
         line = f"set -eu; source {script}; COMP_WORDS=(nuvaskoe {typed}); COMP_CWORD=$((${{#COMP_WORDS[@]}} - 1)); _nuvaskoe"
         told = subprocess.run(["bash", "-c", f"{line}; echo ${{COMPREPLY[@]-}}"], capture_output=True, text=True, check=True).stdout
         assert told.startswith(completed) and (completed or told == "\n"), (typed, told)
@@ -202,11 +204,12 @@ def check_anything(folder):
     rng = random.Random(5)
     path = folder / "anything"
     packet = shutil.copy(SAMPLES / "week-1.xr", folder)
-    some = ["list", "compare", "dials", "runs", "card", "read", "make", "figures", "loss", "plan", "report", "explain", "help", "--json", "--form",
-            "bytes", "digits", "--card", CARD, EXCHANGED, "--gmin", "--batch", "--threshold", "--spacing", "-o", "--", "-", "",
+    some = ["list", "compare", "dials", "runs", "card", "read", "make", "figures", "loss", "plan", "pack", "unpack", "report", "explain",
+            "help", "--json", "--form", "--packed", "--packed=9", "bytes", "digits", "--card", CARD, EXCHANGED, "--gmin", "--batch", "--threshold", "--spacing", "-o", "--", "-", "",
             "--flag", "0", "1", "3", "99999", "-h", "--version", "é", b"\xff", "--gmin=2", "--batch=3", "--threshold=1",
             "--spacing=400", "--runs", str(path), packet]
     for _ in range(1500):
         path.write_bytes(rng.choice([rng.randbytes(rng.randrange(40)), bytes(rng.choices([0, 1, 2, 3, 48, 49, 10], k=30))]))
-        jobs = [["list"], ["compare"], ["dials"], ["runs"], ["card", "read"], ["figures"], ["loss"], ["plan"], ["report"], ["explain"], []]
+        jobs = [["list"], ["compare"], ["dials"], ["runs"], ["card", "read"], ["figures"], ["loss"], ["plan"], ["pack"], ["unpack"],
+                ["report"], ["explain"], []]
         Run(*rng.choice(jobs), *rng.choices(some, k=rng.randrange(7)), data=rng.randbytes(20), cwd=folder)

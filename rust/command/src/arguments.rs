@@ -154,14 +154,14 @@ impl Arguments {
         first.map_or(OsStr::new(""), OsString::as_os_str)
     }
 
-    /// A word that is the number of a block. One that is too large for a block is as good as the
-    /// largest.
-    pub fn block(&self, word: &OsStr) -> Result<usize, Failure> {
+    /// A word that is a number, of which usage has this name. One that is too large is as good as the largest: no packet has
+    /// such a block, and no trace so many packets.
+    pub fn numbered(&self, name: &str, word: &OsStr) -> Result<usize, Failure> {
         match word.to_str().and_then(decimal) {
             Some(number) => Ok(usize::try_from(number).unwrap_or(usize::MAX)),
             None => {
                 let word = plain(&word.to_string_lossy());
-                Err(self.usage(format!("K: \"{word}\" is no number")))
+                Err(self.usage(format!("{name}: \"{word}\" is no number")))
             }
         }
     }

@@ -7,9 +7,11 @@ mod explain;
 mod figures;
 mod list;
 mod loss;
+mod pack;
 mod plan;
 mod report;
 mod runs;
+mod unpack;
 
 use crate::{
     answer::{plain, Failure},
@@ -39,7 +41,7 @@ pub struct Job {
 }
 
 /// All jobs, in the order of help.
-pub static JOBS: [&Job; 12] = [
+pub static JOBS: [&Job; 14] = [
     &list::LIST,
     &compare::COMPARE,
     &dials::DIALS,
@@ -49,6 +51,8 @@ pub static JOBS: [&Job; 12] = [
     &figures::FIGURES,
     &loss::LOSS,
     &plan::PLAN,
+    &pack::PACK,
+    &unpack::UNPACK,
     &report::REPORT,
     &explain::EXPLAIN,
     &help::HELP,

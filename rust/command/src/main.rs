@@ -16,6 +16,7 @@ mod json;
 mod listing;
 mod manual;
 mod output;
+mod packed;
 mod settings;
 mod trace;
 mod words;

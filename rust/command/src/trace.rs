@@ -34,28 +34,37 @@ pub const WORDS: &str = "\
 A TRACE is a file with a character for each packet: 0 received, 1 lost, 2
 discarded. They are bytes of these values, or digits with white space anywhere;
 the first tells which, and it is said which was taken. A trace has 1 to 65,536
-packets, which are numbered from 0.
+packets, which are numbered from 0. One without discarded packets can be packed
+into a bit for each: the job `pack` says how.
 ";
 
 /// The most packets of a trace. One more is read, enough for the library to refuse it.
-const MOST: usize = 65_536;
+pub const MOST: usize = 65_536;
 /// The packets of a line that is written.
 const LINE: usize = 60;
 /// What the library is handed for a character that is no packet: it refuses a byte above 2.
 const NO_PACKET: u8 = u8::MAX;
 
 #[derive(Clone, Copy)]
-pub enum Form {
+enum Form {
     Bytes,
     Digits,
 }
 
+/// What was read for a trace.
+pub struct Head {
+    /// The file's name, for people and for scripts.
+    pub name: String,
+    file: String,
+    /// What it was taken as.
+    form: &'static str,
+    /// How many packets it has.
+    count: usize,
+}
+
 /// A trace as it was read.
 pub struct Trace {
-    /// The file's name, for people and for scripts.
-    name: String,
-    file: String,
-    form: Form,
+    pub head: Head,
     /// One byte a packet, as the library takes them.
     pub packets: Vec<u8>,
     /// The first character that is no packet, and where it stands.
@@ -77,9 +86,7 @@ pub fn read(arguments: &Arguments, name: &OsStr) -> Result<Trace, Failure> {
         Form::Digits => digits(name, BufReader::new(front.chain(file)))?,
     };
     Ok(Trace {
-        name: shown(name),
-        file: name.to_string_lossy().into(),
-        form,
+        head: Head::new(name, form.name(), packets.len()),
         packets,
         unfit,
     })
@@ -144,51 +151,71 @@ pub fn in_digits(packets: &[u8]) -> String {
     digits
 }
 
-impl Trace {
-    /// What the library answered for this trace under these settings.
-    pub fn answer(&self, settings: &dyn Settings, words: &str, numbers: Object) -> One {
-        let head = object([
-            ("file", self.file.as_str().into()),
-            ("form", self.form.to_string().into()),
-            ("packets", self.packets.len().into()),
-            ("settings", settings.numbers().into()),
-        ]);
-        One {
-            words: format!("{self}\n{settings}\n\n{words}"),
-            numbers: head.and(not_refused()).and(numbers),
-            ..One::default()
+impl Head {
+    pub fn new(name: &OsStr, form: &'static str, count: usize) -> Head {
+        Head {
+            name: shown(name),
+            file: name.to_string_lossy().into(),
+            form,
+            count,
         }
     }
 
+    /// For scripts: what was read.
+    pub fn numbers(&self) -> Object {
+        object([
+            ("file", self.file.as_str().into()),
+            ("form", self.form.into()),
+            ("packets", self.count.into()),
+        ])
+    }
+
+    /// What the library answered for this trace under these settings.
+    pub fn answer(&self, settings: &dyn Settings, words: &str, numbers: Object) -> One {
+        let settings_numbers = object([("settings", settings.numbers().into())]);
+        One {
+            words: format!("{self}\n{settings}\n\n{words}"),
+            numbers: self
+                .numbers()
+                .and(settings_numbers)
+                .and(not_refused())
+                .and(numbers),
+            ..One::default()
+        }
+    }
+}
+
+impl Trace {
     /// What the library said of this trace under these settings.
     pub fn refused(&self, refusal: Refusal, settings: impl fmt::Display) -> Failure {
+        let head = &self.head;
         let what = match (refusal.kind, &self.unfit) {
             (RefusalKind::TraceByte, Some(unfit)) => {
-                let (name, form) = (&self.name, self.form);
+                let (name, form) = (&head.name, head.form);
                 format!("{name}, taken as {form}: {unfit} is no packet")
             }
-            _ => format!("{self}; {settings}"),
+            _ => format!("{head}; {settings}"),
         };
         Failure::refused(refusal, what)
     }
 }
 
-impl fmt::Display for Trace {
+impl fmt::Display for Head {
     fn fmt(&self, f: &mut fmt::Formatter<'_>) -> fmt::Result {
         let (name, form) = (&self.name, self.form);
-        match self.packets.len() {
+        match self.count {
             1 => write!(f, "{name}: 1 packet, taken as {form}"),
-            packets if packets > MOST => write!(f, "{name}: over {MOST} packets, taken as {form}"),
-            packets => write!(f, "{name}: {packets} packets, taken as {form}"),
+            count if count > MOST => write!(f, "{name}: over {MOST} packets, taken as {form}"),
+            count => write!(f, "{name}: {count} packets, taken as {form}"),
         }
     }
 }
 
-impl fmt::Display for Form {
-    fn fmt(&self, f: &mut fmt::Formatter<'_>) -> fmt::Result {
-        f.pad(match self {
+impl Form {
+    fn name(self) -> &'static str {
+        match self {
             Form::Bytes => "bytes",
             Form::Digits => "digits",
-        })
+        }
     }
 }

@@ -55,7 +55,9 @@ hall.xr, block 1 discard source 00000002 i 1 burst 8192 gap none
 fn run(arguments: &Arguments) -> Result<Answer<'_>, Failure> {
     let file = arguments.word();
     let asked = arguments.words().get(1);
-    let index = asked.map(|word| arguments.block(word)).transpose()?;
+    let index = asked
+        .map(|word| arguments.numbered("K", word))
+        .transpose()?;
     let packet = input::packet(file)?;
     let chosen = chosen(&packet, index);
     let (at, numbers) = match &chosen {

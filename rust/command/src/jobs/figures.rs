@@ -58,7 +58,7 @@ fn run(arguments: &Arguments) -> Result<Answer<'_>, Failure> {
         ("lost", numbers(&lost).into()),
         ("discarded", numbers(&discarded).into()),
     ];
-    let one = trace.answer(&settings, &words, object(numbers));
+    let one = trace.head.answer(&settings, &words, object(numbers));
     Ok(Answer::One(one))
 }
 

@@ -1,28 +1,30 @@
-//! Effective loss of a trace.
+//! Effective loss of a trace, or of a packed file.
 
 use super::Job;
 use crate::{
     answer::{Answer, Failure},
     arguments::{Arguments, JSON},
     json::object,
+    packed::{self, PACKED},
     settings::{self, Batches, BATCH, CARD, GMIN, SPACING, THRESHOLD},
     trace::{self, FORM},
     words,
 };
-use nuvaskoe::effective::{self, EffectiveLoss};
+use nuvaskoe::effective::EffectiveLoss;
 
 pub const LOSS: Job = Job {
     name: "loss",
-    usage: "--card CARD TRACE",
+    usage: "--card CARD [--packed PACKETS] TRACE",
     purpose: "effective loss: how many batches are beyond repair",
     words: "\
 Batches are all runs of B packets, each beginning one packet after the one
 before. A batch with more than T lost packets is over the threshold: it cannot
 be repaired. K of N batches are; the index is their share as a report packet
 holds it, in parts of 65,535, rounded down. Packets are numbered from 0. A
-discarded packet is no loss here.
+discarded packet is no loss here. A file of the job `pack` is taken as it is
+with --packed and the number of its packets.
 ",
-    options: &[CARD, GMIN, BATCH, THRESHOLD, SPACING, FORM, JSON],
+    options: &[CARD, GMIN, BATCH, THRESHOLD, SPACING, FORM, PACKED, JSON],
     takes: trace::ONE,
     example: "\
 $ echo 011 010 100 | nuvaskoe loss --batch 3 --threshold 1 -
@@ -39,9 +41,8 @@ batch 3 packets, threshold 1 loss
 
 fn run(arguments: &Arguments) -> Result<Answer<'_>, Failure> {
     let settings = settings::given(arguments)?.batches()?;
-    let trace = trace::read(arguments, arguments.word())?;
-    let loss = effective::effective_loss(&trace.packets, settings.batch, settings.threshold);
-    let loss = loss.map_err(|refusal| trace.refused(refusal, &settings))?;
+    let trace = packed::given(arguments)?;
+    let loss = trace.loss(&settings)?;
     let numbers = object([
         ("over", loss.over.into()),
         ("batches", loss.batches.into()),

@@ -1,4 +1,4 @@
-//! The smallest resend plan of a trace.
+//! The smallest resend plan of a trace, or of a packed file.
 
 use super::Job;
 use crate::{
@@ -6,25 +6,29 @@ use crate::{
     arguments::{Arguments, Opt, JSON},
     json::object,
     output,
+    packed::{self, PACKED},
     settings::{self, BATCH, CARD, GMIN, SPACING, THRESHOLD},
     trace::{self, FORM},
     words,
 };
-use nuvaskoe::resend;
 
 const OUT: Opt = output::option("the plan, a byte a packet; - is standard output");
 
 pub const PLAN: Job = Job {
     name: "plan",
-    usage: "--card CARD TRACE [-o FILE]",
+    usage: "--card CARD [--packed PACKETS] TRACE [-o FILE]",
     purpose: "the fewest packets to resend so that every batch can be repaired",
     words: "\
 With the packets of the plan resent, no batch of B packets is left with more
 than T losses, and no plan with fewer packets does that. Only lost packets are
 resent. Packets are numbered from 0, and 4-7 are the packets 4 to 7. The file of
--o has a byte for each packet of the trace: 1 to resend it, 0 otherwise.
+-o has a byte for each packet of the trace: 1 to resend it, 0 otherwise. A file
+of the job `pack` is taken as it is with --packed and the number of its packets;
+the plan has a byte for each packet all the same.
 ",
-    options: &[CARD, GMIN, BATCH, THRESHOLD, SPACING, FORM, OUT, JSON],
+    options: &[
+        CARD, GMIN, BATCH, THRESHOLD, SPACING, FORM, PACKED, OUT, JSON,
+    ],
     takes: trace::ONE,
     example: "\
 $ echo 011 010 100 | nuvaskoe plan --batch 3 --threshold 1 -
@@ -39,15 +43,8 @@ batch 3 packets, threshold 1 loss
 
 fn run(arguments: &Arguments) -> Result<Answer<'_>, Failure> {
     let settings = settings::given(arguments)?.batches()?;
-    let trace = trace::read(arguments, arguments.word())?;
-    let mut plan = vec![0; trace.packets.len()];
-    let marks = resend::plan(
-        &trace.packets,
-        settings.batch,
-        settings.threshold,
-        &mut plan,
-    );
-    let marks = marks.map_err(|refusal| trace.refused(refusal, &settings))?;
+    let trace = packed::given(arguments)?;
+    let (marks, plan) = trace.plan(&settings)?;
     let which = match marks {
         0 => "  resend 0 packets: no batch is over the threshold\n".into(),
         1 => format!("  resend 1 packet:\n{}", words::lines(marked(&plan))),

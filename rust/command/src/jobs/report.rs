@@ -151,7 +151,7 @@ fn run(arguments: &Arguments) -> Result<Answer<'_>, Failure> {
     let refused = |refusal| refused(&trace, refusal, flag);
     let packet = made(sender, &blocks, runs).map_err(refused)?;
     let numbers = listing::numbers(&packet).map_err(refused)?;
-    let one = trace.answer(&settings, "", numbers);
+    let one = trace.head.answer(&settings, "", numbers);
     Ok(Answer::One(output::with(arguments, one, packet)))
 }
 

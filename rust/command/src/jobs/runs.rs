@@ -48,7 +48,7 @@ fn run(arguments: &Arguments) -> Result<Answer<'_>, Failure> {
     let [file, asked] = arguments.words() else {
         return Err(arguments.usage(RUNS.takes.fewer));
     };
-    let index = arguments.block(asked)?;
+    let index = arguments.numbered("K", asked)?;
     let packet = input::packet(file)?;
     let name = format!("{}, block {}", shown(file), plain(&asked.to_string_lossy()));
     let block = packet::blocks(&packet).map(|mut blocks| blocks.nth(index));
