@@ -6,10 +6,11 @@
  * answers or refuses. A refused call changes no byte of any buffer that it was lent. docs/PROMISES.md says what each
  * promises.
  *
- * Buffers: a pointer and a length in elements: bytes, or 32-bit numbers for the lists of nuvaskoe_packet_list and
- * nuvaskoe_packet_compare. Where the length is 0 the pointer may be NULL, and nothing is read or written through it.
- * What stands behind a pointer belongs to the caller, and nothing is kept of it after the call. Buffers that are
- * only read may overlap, or be the same. `out` shares no byte with any of them: nothing is promised of a call where it does.
+ * Buffers: a pointer and a length in elements: bytes, 32-bit numbers for the lists of nuvaskoe_packet_list and
+ * nuvaskoe_packet_compare, or 64-bit words for packed traces. Where the length is 0 the pointer may be NULL, and nothing
+ * is read or written through it. What stands behind a pointer belongs to the caller, and nothing is kept of it after
+ * the call. Buffers that are only read may overlap, or be the same. `out` shares no byte with any of them: nothing is
+ * promised of a call where it does.
  *
  * Threads: the library has no state and allocates nothing. Every call can be made from any threads at once, as long as
  * none writes to a buffer that another one is lent.
@@ -47,8 +48,8 @@ enum {
     NUVASKOE_REFUSAL_PADDING = 5, /* its padding bit is set */
     NUVASKOE_REFUSAL_BLOCK_PAST_END = 6, /* a block runs past the end */
     NUVASKOE_REFUSAL_NO_SUCH_BLOCK = 7, /* it has no block with that number */
-    NUVASKOE_REFUSAL_BUFFER_SHORT = 8, /* the buffer is too short for the result */
-    NUVASKOE_REFUSAL_TRACE_BYTE = 9, /* a byte of the trace is above 2 */
+    NUVASKOE_REFUSAL_BUFFER_SHORT = 8, /* the buffer is too short for the result, or there are fewer words than the packets need */
+    NUVASKOE_REFUSAL_TRACE_BYTE = 9, /* a byte of the trace is above 2, or a bit past the end of a packed one is not 0 */
     NUVASKOE_REFUSAL_TRACE_LENGTH = 10, /* the trace is empty or over 65,536 packets, or a tally is full */
     NUVASKOE_REFUSAL_CARD_DIGITS = 11, /* the card is not exactly twenty digits */
     NUVASKOE_REFUSAL_CARD_CHECK = 12, /* the card's check does not fit */
@@ -622,9 +623,9 @@ static inline const char *nuvaskoe_refusal_meaning(uint32_t number)
     case NUVASKOE_REFUSAL_NO_SUCH_BLOCK:
         return "it has no block with that number";
     case NUVASKOE_REFUSAL_BUFFER_SHORT:
-        return "the buffer is too short for the result";
+        return "the buffer is too short for the result, or there are fewer words than the packets need";
     case NUVASKOE_REFUSAL_TRACE_BYTE:
-        return "a byte of the trace is above 2";
+        return "a byte of the trace is above 2, or a bit past the end of a packed one is not 0";
     case NUVASKOE_REFUSAL_TRACE_LENGTH:
         return "the trace is empty or over 65,536 packets, or a tally is full";
     case NUVASKOE_REFUSAL_CARD_DIGITS:
@@ -665,9 +666,9 @@ static inline const char *nuvaskoe_refusal_advice(uint32_t number)
     case NUVASKOE_REFUSAL_NO_SUCH_BLOCK:
         return "blocks are numbered from 0";
     case NUVASKOE_REFUSAL_BUFFER_SHORT:
-        return "lend more: 20 bytes for a card, a byte a packet for a plan, two entries a block for a list";
+        return "lend more: 20 bytes for a card, a byte a packet for a plan, two entries a block for a list; a packed trace has a word for each 64 packets";
     case NUVASKOE_REFUSAL_TRACE_BYTE:
-        return "a packet is 0 received, 1 lost or 2 discarded";
+        return "a packet is 0 received, 1 lost or 2 discarded; the last word of a packed trace is filled up with zeros";
     case NUVASKOE_REFUSAL_TRACE_LENGTH:
         return "hand in at least one packet, and measure in shorter stretches";
     case NUVASKOE_REFUSAL_CARD_DIGITS:

@@ -21,9 +21,9 @@ pub enum RefusalKind {
     BlockPastEnd = 6,
     /// It has no block with that number.
     NoSuchBlock = 7,
-    /// The buffer is too short for the result.
+    /// The buffer is too short for the result, or there are fewer words than the packets need.
     BufferShort = 8,
-    /// A byte of the trace is above 2.
+    /// A byte of the trace is above 2, or a bit past the end of a packed one is not 0.
     TraceByte = 9,
     /// The trace is empty or over 65,536 packets, or a tally is full.
     TraceLength = 10,
@@ -86,8 +86,8 @@ impl RefusalKind {
             RefusalKind::Padding => "its padding bit is set",
             RefusalKind::BlockPastEnd => "a block runs past the end",
             RefusalKind::NoSuchBlock => "it has no block with that number",
-            RefusalKind::BufferShort => "the buffer is too short for the result",
-            RefusalKind::TraceByte => "a byte of the trace is above 2",
+            RefusalKind::BufferShort => "the buffer is too short for the result, or there are fewer words than the packets need",
+            RefusalKind::TraceByte => "a byte of the trace is above 2, or a bit past the end of a packed one is not 0",
             RefusalKind::TraceLength => "the trace is empty or over 65,536 packets, or a tally is full",
             RefusalKind::CardDigits => "the card is not exactly twenty digits",
             RefusalKind::CardCheck => "the card's check does not fit",
@@ -109,8 +109,8 @@ impl RefusalKind {
             RefusalKind::Padding => "padded packets are not read: the sender must send them without",
             RefusalKind::BlockPastEnd => "the packet was damaged: nothing of it is read",
             RefusalKind::NoSuchBlock => "blocks are numbered from 0",
-            RefusalKind::BufferShort => "lend more: 20 bytes for a card, a byte a packet for a plan, two entries a block for a list",
-            RefusalKind::TraceByte => "a packet is 0 received, 1 lost or 2 discarded",
+            RefusalKind::BufferShort => "lend more: 20 bytes for a card, a byte a packet for a plan, two entries a block for a list; a packed trace has a word for each 64 packets",
+            RefusalKind::TraceByte => "a packet is 0 received, 1 lost or 2 discarded; the last word of a packed trace is filled up with zeros",
             RefusalKind::TraceLength => "hand in at least one packet, and measure in shorter stretches",
             RefusalKind::CardDigits => "look for a missing digit, a letter or a space",
             RefusalKind::CardCheck => "a digit is wrong, or two are exchanged: compare with the master card",
