@@ -27,9 +27,9 @@ extern "C" {
 
 /* The version of this header: major * 10,000 + minor * 100 + patch. */
 #define NUVASKOE_VERSION_MAJOR 0
-#define NUVASKOE_VERSION_MINOR 5
+#define NUVASKOE_VERSION_MINOR 6
 #define NUVASKOE_VERSION_PATCH 0
-#define NUVASKOE_VERSION 500
+#define NUVASKOE_VERSION 600
 
 /* The version of the archive that is linked: that of this header is NUVASKOE_VERSION. */
 uint32_t nuvaskoe_version(void);

@@ -4,9 +4,9 @@
 use std::mem::{offset_of, size_of};
 
 pub(crate) const VERSION_MAJOR: u32 = 0;
-pub(crate) const VERSION_MINOR: u32 = 5;
+pub(crate) const VERSION_MINOR: u32 = 6;
 pub(crate) const VERSION_PATCH: u32 = 0;
-pub(crate) const VERSION: u32 = 500;
+pub(crate) const VERSION: u32 = 600;
 pub(crate) const CARD_BYTES: usize = 20;
 pub(crate) const PACKET_BYTES_MAX: usize = 262144;
 pub(crate) const BLOCK_RLE: u32 = 1;
