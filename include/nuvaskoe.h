@@ -63,7 +63,7 @@ enum {
 /* Why a call said no: a row of the table of refusals by its number, and the place. */
 typedef struct nuvaskoe_refusal {
     uint32_t number; /* from 1; at the boundary to C 0 is no refusal, and the rest of the answer then holds */
-    size_t place; /* 6: the block's offset; 9: the byte's index in a trace; 0 elsewhere */
+    size_t place; /* 6: the block's offset; 9: the byte's index in a trace, the bit's in a packed one; 0 elsewhere */
 } nuvaskoe_refusal;
 
 /* The four settings of a card, and the range of each. */

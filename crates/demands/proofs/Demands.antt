@@ -37,12 +37,13 @@ use Rattle.compare.proofs.Empty.{empty-exactly, self-empty, reserved-empty, tur
 use Rattle.compare.proofs.Listed.{listed-exactly}
 use Rattle.compare.proofs.Room.{room-enough}
 use Rattle.demands.specs.Lent.{Unchanged}
-use Rattle.demands.specs.Demands.{Demand1, Demand2, Demand3}
+use Rattle.demands.specs.Demands.{Demand1, Demand2, Demand3, Demand3-packed}
 use Rattle.demands.proofs.Orders.{each-call}
 use Rattle.demands.proofs.Boundary.{at-boundary}
 use Rattle.demands.proofs.Packets.{packets-read, packets-written, blocks-again}
 use Rattle.demands.proofs.Formulas.{as-published, never-unavailable}
 use Rattle.demands.proofs.Panels.{panels-shown}
+use Rattle.demands.proofs.Packed.{same-figures, packed-kept}
 
 kept : (answer : Written) (result out : List ℕ) (r : Refusal) → answer ≡ Refused r → after answer result out ≡ out
 kept answer result out r h = rw h
@@ -71,6 +72,9 @@ unchanged =
       packet-rle = λ s k out r h. kept _ _ out r h;
       packet-add-rle = λ out source begin s r h. kept _ _ out r h;
       resend-plan = λ event s b t out r h. refused-unchanged _ _ _ b t out r h;
+      trace-pack = λ s out r h. kept _ _ out r h;
+      trace-unpack = λ words packets out r h. kept _ _ out r h;
+      packed-plan = λ words packets b t out r h. refused-unchanged _ _ _ b t out r h;
       tally-take = given-back;
     }
 
@@ -119,6 +123,7 @@ demand-2 =
             compared = λ es e r is. ap (contentOf e) is;
             shown = λ type r. record { verdict = refl; source = refl; begin = refl; end = refl; packets = refl; lost = refl };
           };
+      packed-kept = packed-kept;
       as-published = as-published;
       never-unavailable = never-unavailable;
       cards-guarded =
@@ -142,3 +147,6 @@ demand-3 s b t out asked =
       fewest = best .smallest .fewest;
       first-difference = best .first-difference;
     }
+
+pub demand-3-packed : Demand3-packed
+demand-3-packed s buffer b t out without enough asked = rw (same-figures s buffer b t out without enough .bytes) (demand-3 s b t out asked)

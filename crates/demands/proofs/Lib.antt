@@ -4,4 +4,5 @@ pub mod Places
 pub mod Packets
 pub mod Formulas
 pub mod Panels
+pub mod Packed
 pub mod Demands

@@ -1,8 +1,8 @@
 -- Each call gives the first refusal of its order whose condition holds: `EachCall` of specs/Orders.antt. Assumes nothing.
-use Prim.Native.Nat.{ℕ, zero, suc, _*_, _/_, _%_, _≤_}
+use Prim.Native.Nat.{ℕ, zero, suc, _+_, _*_, _/_, _%_, _≤_}
 use mathlib.Core.Path.{_≡_, refl, sym, ap, _∙_}
 use mathlib.Core.Bool.{Bool, true, false, cond, not}
-use mathlib.Core.List.{List, [], _∷_, _++_}
+use mathlib.Core.List.{List, [], _∷_, _++_, append-nil}
 use native.Mathlib.Omega.{arith}
 use native.Mathlib.Decide.{decLe}
 use borrow.Author.Tests.{le-leb, lt-leb, lt-ltb, le-ltb}
@@ -42,7 +42,7 @@ use Rattle.compare.specs.Answer.{differencesOf, compareAnswer}
 use Rattle.compose.specs.Writing.{lengthAfter, lengthMax, sizeAfter, appended, appendAnswer, ownOf, addAnswer}
 use Rattle.trace.specs.declared.Event.{Event}
 use Rattle.trace.specs.declared.Event.the-variants.{Lost, Discarded}
-use Rattle.trace.specs.Trace.{lost, packetMax, traceMax, countedAt, lengthWithin, firstAbove, judgedWithin, judged}
+use Rattle.trace.specs.Trace.{lost, packetMax, traceMax, countedAt, packetsWithin, lengthWithin, firstAbove, judgedWithin, judged}
 use Rattle.bursts.specs.declared.FiguresRead.{FiguresRead}
 use Rattle.bursts.specs.declared.FiguresRead.the-variants.{Accepted as Figures·Accepted, Refused as Figures·Refused}
 use Rattle.tally.specs.declared.Tally.{Tally}
@@ -58,7 +58,10 @@ use Rattle.batch.specs.Judging.{judgedFor}
 use Rattle.batch.specs.Loss.{lossAnswer}
 use Rattle.resend.specs.declared.Planned.the-variants.{Refused as Planned·Refused}
 use Rattle.resend.specs.Answer.{planAnswer}
-use Rattle.demands.specs.Orders.{Row, when, judgedBy, headerRows, pastRows, framesAt, blocksIn, packetRows, roomRows, ownRows, traceRowsWithin, traceRows, isRle, figuresRows, batchRows, EachCall}
+use Rattle.packed.specs.Words.{wordsFor, lostAt}
+use Rattle.packed.specs.Judging.{pastEnd, firstPast, judgedPacked}
+use Rattle.packing.specs.Packing.{packAnswer, unpackAnswer}
+use Rattle.demands.specs.Orders.{Row, when, judgedBy, headerRows, pastRows, framesAt, blocksIn, packetRows, roomRows, ownRows, traceRowsWithin, traceRows, isRle, figuresRows, packedRows, EachCall}
 use Rattle.demands.specs.Verdicts.{ofWritten, ofCard, ofHead, ofBlock, ofCompared, ofFigures, ofSummary, ofOpened, ofTaken, ofLoss, ofPlanned, ofLocated}
 
 -- "less" is "not at least"
@@ -262,23 +265,45 @@ summary-same Lost source flag (Figures·Refused r) = refl
 summary-same Discarded source flag (Figures·Accepted f) = refl
 summary-same Discarded source flag (Figures·Refused r) = refl
 
-batch-rows : (s : List ℕ) (b t : ℕ) → judgedFor (judged s) (length s) b t ≡ judgedBy (batchRows s b t)
-unfolding judgedFor
-batch-rows s b t =
-    line (λ (j : Judged). j) (batchInRange limits b t) setting _ _ _ refl
-    (input (λ (j : Judged). j) (judged s) Refused _ (traceRows s) _ (trace-rows s) (λ r. refl)
-    (at-least (λ (j : Judged). j) b (length s) batchLength _ _ [] refl answered))
+-- batches, of an input that is judged by itself; the plan's room
+module _ (verdict : Judged) (rows : List Row) (is : verdict ≡ judgedBy rows) (lost : ℕ → Bool) (e b t : ℕ) where
+  abbrev settled : List Row
+  settled = when (not (batchInRange limits b t)) setting ∷ (rows ++ when (ltb e b) batchLength ∷ [])
 
-effective-loss : (event : Event) (s : List ℕ) (b t : ℕ) → ofLoss (lossAnswer (judged s) (countedAt event s) (length s) b t) ≡ judgedBy (batchRows s b t)
-unfolding lossAnswer
-effective-loss event s b t = input ofLoss (judgedFor (judged s) (length s) b t) LossRead·Refused _ (batchRows s b t) [] (batch-rows s b t) (λ r. refl) answered
+  batch-rows : judgedFor verdict e b t ≡ judgedBy settled
+  unfolding judgedFor
+  batch-rows =
+      line (λ (j : Judged). j) (batchInRange limits b t) setting _ _ _ refl
+      (input (λ (j : Judged). j) verdict Refused _ rows _ is (λ r. refl) (at-least (λ (j : Judged). j) b e batchLength _ _ [] refl answered))
 
-resend-plan : (event : Event) (s : List ℕ) (b t : ℕ) (out : List ℕ) →
-    ofPlanned (planAnswer (judged s) (countedAt event s) (length s) b t out) ≡ judgedBy (batchRows s b t ++ when (ltb (length out) (length s)) bufferShort ∷ [])
-unfolding planAnswer
-resend-plan event s b t out =
-    input ofPlanned (judgedFor (judged s) (length s) b t) Planned·Refused _ (batchRows s b t) _ (batch-rows s b t) (λ r. refl)
-    (at-least ofPlanned (length s) (length out) bufferShort _ _ [] refl answered)
+  loss-rows : ofLoss (lossAnswer verdict lost e b t) ≡ judgedBy settled
+  unfolding lossAnswer
+  loss-rows = input ofLoss (judgedFor verdict e b t) LossRead·Refused _ settled [] batch-rows (λ r. refl) answered ∙ ap judgedBy (append-nil settled)
+
+  plan-rows : (out : List ℕ) → ofPlanned (planAnswer verdict lost e b t out) ≡ judgedBy (settled ++ when (ltb (length out) e) bufferShort ∷ [])
+  unfolding planAnswer
+  plan-rows out = input ofPlanned (judgedFor verdict e b t) Planned·Refused _ settled _ batch-rows (λ r. refl) (at-least ofPlanned e (length out) bufferShort _ _ [] refl answered)
+
+-- packed traces
+packed-rows : (words : List ℕ) (packets : ℕ) → judgedPacked words packets ≡ judgedBy (packedRows words packets)
+unfolding judgedPacked
+packed-rows words packets =
+    line (λ (j : Judged). j) (packetsWithin traceMax packets) traceLength _ _ _ refl
+    (at-least (λ (j : Judged). j) (wordsFor packets) (length words) bufferShort _ _ _ refl
+    (at-least (λ (j : Judged). j) (length (pastEnd words packets)) (firstPast words packets) (traceByte (packets + firstPast words packets)) _ _ [] refl answered))
+
+trace-pack : (s out : List ℕ) → ofWritten (packAnswer s out) ≡ judgedBy (traceRowsWithin traceMax lost s ++ when (ltb (length out) (wordsFor (length s))) bufferShort ∷ [])
+unfolding packAnswer
+trace-pack s out =
+    input ofWritten (judgedWithin traceMax lost s) Written·Refused _ (traceRowsWithin traceMax lost s) _ (within-rows traceMax lost s) (λ r. refl)
+    (at-least ofWritten (wordsFor (length s)) (length out) bufferShort _ _ [] refl answered)
+
+trace-unpack : (words : List ℕ) (packets : ℕ) (out : List ℕ) →
+    ofWritten (unpackAnswer words packets out) ≡ judgedBy (packedRows words packets ++ when (ltb (length out) packets) bufferShort ∷ [])
+unfolding unpackAnswer
+trace-unpack words packets out =
+    input ofWritten (judgedPacked words packets) Written·Refused _ (packedRows words packets) _ (packed-rows words packets) (λ r. refl)
+    (at-least ofWritten packets (length out) bufferShort _ _ [] refl answered)
 
 -- tallies
 pub tally-open : (gmin spacing : ℕ) (event : Event) → ofOpened (openOf gmin spacing event) ≡ judgedBy (when (not (burstInRange gmin spacing)) setting ∷ [])
@@ -330,11 +355,17 @@ each-call =
       packet-add-rle = packet-add-rle;
       append = λ s own n. append-rows s own n (ownRows own) (own-rows own);
       trace = trace-rows;
-      batch = batch-rows;
+      batch = λ s b t. batch-rows (judged s) (traceRows s) (trace-rows s) (countedAt Lost s) (length s) b t;
       figures = figures;
       block-of-trace = λ gmin spacing event s source flag. summary-same event source flag (figuresIn gmin spacing event s) ∙ figures gmin spacing event s;
-      effective-loss = effective-loss;
-      resend-plan = resend-plan;
+      effective-loss = λ event s b t. loss-rows (judged s) (traceRows s) (trace-rows s) (countedAt event s) (length s) b t;
+      resend-plan = λ event s b t out. plan-rows (judged s) (traceRows s) (trace-rows s) (countedAt event s) (length s) b t out;
+      trace-pack = trace-pack;
+      packed = packed-rows;
+      packed-batch = λ words packets b t. batch-rows (judgedPacked words packets) (packedRows words packets) (packed-rows words packets) (lostAt words) packets b t;
+      trace-unpack = trace-unpack;
+      packed-loss = λ words packets b t. loss-rows (judgedPacked words packets) (packedRows words packets) (packed-rows words packets) (lostAt words) packets b t;
+      packed-plan = λ words packets b t out. plan-rows (judgedPacked words packets) (packedRows words packets) (packed-rows words packets) (lostAt words) packets b t out;
       tally-of-trace = tally-of-trace;
       sums = sums;
       tally-open = tally-open;

@@ -4,14 +4,17 @@ use Prim.Native.Nat.{ℕ, _<_, _≤_}
 use mathlib.Core.Path.{_≡_}
 use mathlib.Core.Bool.{true}
 use mathlib.Core.List.{List}
-use lib.ListN.{length, getD}
+use lib.ListN.{length, getD, take}
 use Rattle.trace.specs.declared.Event.the-variants.{Lost}
-use Rattle.trace.specs.Trace.{countedAt, judged}
+use Rattle.trace.specs.Trace.{lost, traceMax, countedAt, judged}
+use Rattle.trace.specs.Laws.{IsWithin}
 use Rattle.batch.specs.Batches.{batches, lossesIn}
 use Rattle.resend.specs.declared.Planned.the-variants.{Marks}
 use Rattle.resend.specs.Plans.{IsPlan, marked, marks, Valid, DifferFirst, resent}
 use Rattle.resend.specs.Answer.{planAnswer, Plannable}
 use Rattle.resend.specs.Laws.{planIn}
+use Rattle.packed.specs.Words.{wordsFor}
+use Rattle.packing.specs.Laws.{packedInto}
 use Rattle.demands.specs.Orders.{EachCall, Conditions}
 use Rattle.demands.specs.Lent.{Unchanged}
 use Rattle.demands.specs.Boundary.{AtBoundary}
@@ -19,6 +22,7 @@ use Rattle.demands.specs.Packets.{PacketsRead, PacketsWritten, BlocksAga
 use Rattle.demands.specs.Formulas.{AsPublished, NeverUnavailable}
 use Rattle.demands.specs.Panels.{PanelsShown}
 use Rattle.demands.specs.Runs.{RunsKept}
+use Rattle.demands.specs.Packed.{packedPlanAfter, PackedKept}
 use Rattle.demands.specs.Cards.{CardsGuarded}
 
 -- 1.
@@ -44,6 +48,8 @@ pub record Demand2 : Type 0 where
   pub panels-shown : PanelsShown
   -- document 02, ticket 5: "Turn such a block into a trace (received or lost) and write a trace as one."
   pub runs-kept : RunsKept
+  -- document 02, ticket 6: "Byte traces fill the disc. Offer a second form"
+  pub packed-kept : PackedKept
   -- "Burst, gap and effective loss figures equal their published formulas,"
   pub as-published : AsPublished
   -- "and a figure that could be measured is never sent as unavailable."
@@ -69,3 +75,8 @@ pub record Plan (s : List ℕ) (b t : ℕ) (out p : List ℕ) : Type 0 where
 -- "For any accepted trace, any batch and threshold in range with the batch no longer than the trace, and room:"
 abbrev pub Demand3 : Type 0
 Demand3 = (s : List ℕ) (b t : ℕ) (out : List ℕ) → Plannable (judged s) (length s) b t out → Plan s b t out (planIn Lost s b t out)
+
+-- The same of its packed form: the plan of the words, once any buffer with room was packed into, is the plan of the trace.
+abbrev pub Demand3-packed : Type 0
+Demand3-packed = (s buffer : List ℕ) (b t : ℕ) (out : List ℕ) → IsWithin traceMax lost s → wordsFor (length s) ≤ length buffer →
+    Plannable (judged s) (length s) b t out → Plan s b t out (take (length s) (packedPlanAfter (packedInto s buffer) (length s) b t out))

@@ -25,6 +25,10 @@ use Rattle.tally.specs.declared.Answer.the-variants.{Refused as Answer·Refused
 use Rattle.tally.specs.Tally.{takeOne}
 use Rattle.resend.specs.declared.Planned.the-variants.{Refused as Planned·Refused}
 use Rattle.resend.specs.Answer.{planAnswer, bufferAfter}
+use Rattle.packed.specs.Words.{lostAt}
+use Rattle.packed.specs.Judging.{judgedPacked}
+use Rattle.packing.specs.Packing.{packAnswer, unpackAnswer}
+use Rattle.packing.specs.Laws.{packedInto, unpackedInto}
 
 -- "All lent bytes keep what they held; a tally comes back as given": of every call that fills a lent buffer, which the
 -- calls of include/nuvaskoe.h do by the same definitions, and of taking a packet.
@@ -39,4 +43,8 @@ pub record Unchanged : Type 0 where
       after (rleAnswer out source begin s) (grown out (rleWords source begin s)) out ≡ out
   pub resend-plan : (event : Event) (s : List ℕ) (b t : ℕ) (out : List ℕ) (r : Refusal) →
       planAnswer (judged s) (countedAt event s) (length s) b t out ≡ Planned·Refused r → bufferAfter (judged s) (countedAt event s) (length s) b t out ≡ out
+  pub trace-pack : (s out : List ℕ) (r : Refusal) → packAnswer s out ≡ Refused r → packedInto s out ≡ out
+  pub trace-unpack : (words : List ℕ) (packets : ℕ) (out : List ℕ) (r : Refusal) → unpackAnswer words packets out ≡ Refused r → unpackedInto words packets out ≡ out
+  pub packed-plan : (words : List ℕ) (packets b t : ℕ) (out : List ℕ) (r : Refusal) →
+      planAnswer (judgedPacked words packets) (lostAt words) packets b t out ≡ Planned·Refused r → bufferAfter (judgedPacked words packets) (lostAt words) packets b t out ≡ out
   pub tally-take : (t : Tally) (packet : ℕ) (r : Refusal) → takeOne t packet .answer ≡ Answer·Refused r → takeOne t packet .tally ≡ t

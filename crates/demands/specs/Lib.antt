@@ -7,5 +7,6 @@ pub mod Packets
 pub mod Formulas
 pub mod Panels
 pub mod Runs
+pub mod Packed
 pub mod Cards
 pub mod Demands

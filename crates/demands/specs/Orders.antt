@@ -1,6 +1,6 @@
 -- When each call refuses: document 01, "When the set says no". A call's refusals stand in the order in which they are
 -- judged, each beside its condition; the call gives the first whose condition holds, and answers where none does.
-use Prim.Native.Nat.{ℕ, _*_, _/_, _%_}
+use Prim.Native.Nat.{ℕ, _+_, _*_, _/_, _%_}
 use mathlib.Core.Path.{_≡_}
 use mathlib.Core.Bool.{Bool, true, false, cond, not}
 use mathlib.Core.List.{List, [], _∷_, _++_}
@@ -30,12 +30,15 @@ use Rattle.survey.specs.Survey.{listAnswer}
 use Rattle.compare.specs.Answer.{differencesOf, compareAnswer}
 use Rattle.compose.specs.Writing.{newAnswer, lengthAfter, lengthMax, sizeAfter, addAnswer}
 use Rattle.trace.specs.declared.Event.{Event}
-use Rattle.trace.specs.Trace.{lost, packetMax, traceMax, countedAt, lengthWithin, firstAbove, judged}
+use Rattle.trace.specs.Trace.{lost, packetMax, traceMax, countedAt, packetsWithin, lengthWithin, firstAbove, judged}
 use Rattle.tally.specs.declared.Tally.{Tally}
 use Rattle.tally.specs.Tally.{openOf, sound, takeOne, closeOf}
 use Rattle.figures.specs.Figures.{figuresIn, summaryOf}
 use Rattle.batch.specs.Loss.{lossAnswer}
 use Rattle.resend.specs.Answer.{planAnswer}
+use Rattle.packed.specs.Words.{wordsFor, lostAt}
+use Rattle.packed.specs.Judging.{pastEnd, firstPast, judgedPacked}
+use Rattle.packing.specs.Packing.{packAnswer, unpackAnswer}
 use Rattle.frame.specs.Packet.{packetIn, locatedOf}
 use Rattle.frame.specs.Laws.{Past-exactly}
 use Rattle.compose.specs.Writing.{appendAnswer}
@@ -118,6 +121,19 @@ figuresRows gmin spacing s = when (not (burstInRange gmin spacing)) setting ∷ 
 abbrev pub batchRows : List ℕ → ℕ → ℕ → List Row
 batchRows s b t = when (not (batchInRange limits b t)) setting ∷ (traceRows s ++ when (ltb (length s) b) batchLength ∷ [])
 
+-- document 02, ticket 6, of a packed trace by itself: "10, 8 for a word slice too short to read, 9 at the index, counted on from the
+-- packets, of the first nonzero bit past the end in the last needed word"
+abbrev pub packedRows : List ℕ → ℕ → List Row
+packedRows words packets =
+    when (not (packetsWithin traceMax packets)) traceLength
+    ∷ when (ltb (length words) (wordsFor packets)) bufferShort
+    ∷ when (ltb (firstPast words packets) (length (pastEnd words packets))) (traceByte (packets + firstPast words packets))
+    ∷ []
+
+-- "15", then these, then "14"
+abbrev pub packedBatchRows : List ℕ → ℕ → ℕ → ℕ → List Row
+packedBatchRows words packets b t = when (not (batchInRange limits b t)) setting ∷ (packedRows words packets ++ when (ltb packets b) batchLength ∷ [])
+
 -- Every call of the library that can refuse, on any input.
 pub record EachCall : Type 0 where
   -- "Cards: 11, 12, 13; writing a card: 15, then 8"
@@ -160,6 +176,16 @@ pub record EachCall : Type 0 where
       ofLoss (lossAnswer (judged s) (countedAt event s) (length s) b t) ≡ judgedBy (batchRows s b t)
   pub resend-plan : (event : Event) (s : List ℕ) (b t : ℕ) (out : List ℕ) →
       ofPlanned (planAnswer (judged s) (countedAt event s) (length s) b t out) ≡ judgedBy (batchRows s b t ++ when (ltb (length out) (length s)) bufferShort ∷ [])
+  -- packed traces: "converting from bytes counts 2 as bad"; "8 for the room to write"
+  pub trace-pack : (s out : List ℕ) → ofWritten (packAnswer s out) ≡ judgedBy (traceRowsWithin traceMax lost s ++ when (ltb (length out) (wordsFor (length s))) bufferShort ∷ [])
+  pub packed : (words : List ℕ) (packets : ℕ) → judgedPacked words packets ≡ judgedBy (packedRows words packets)
+  pub packed-batch : (words : List ℕ) (packets b t : ℕ) → judgedFor (judgedPacked words packets) packets b t ≡ judgedBy (packedBatchRows words packets b t)
+  pub trace-unpack : (words : List ℕ) (packets : ℕ) (out : List ℕ) →
+      ofWritten (unpackAnswer words packets out) ≡ judgedBy (packedRows words packets ++ when (ltb (length out) packets) bufferShort ∷ [])
+  pub packed-loss : (words : List ℕ) (packets b t : ℕ) →
+      ofLoss (lossAnswer (judgedPacked words packets) (lostAt words) packets b t) ≡ judgedBy (packedBatchRows words packets b t)
+  pub packed-plan : (words : List ℕ) (packets b t : ℕ) (out : List ℕ) →
+      ofPlanned (planAnswer (judgedPacked words packets) (lostAt words) packets b t out) ≡ judgedBy (packedBatchRows words packets b t ++ when (ltb (length out) packets) bufferShort ∷ [])
   -- "Tallies: 15, 10, 9"; sums by themselves as a tally's
   pub tally-of-trace : (gmin spacing : ℕ) (event : Event) (s : List ℕ) → ofOpened (ofTrace gmin spacing event s) ≡ judgedBy (figuresRows gmin spacing s)
   pub sums : (r : Sums) → ofFigures (measureOf r) ≡ judgedBy (when (not (sumsSound r)) setting ∷ [])

@@ -8,7 +8,7 @@ use Rattle.ffi_answer.specs.declared.WrittenSize.{WrittenSize}
 
 -- 0.5.0: major × 10,000 + minor × 100 + patch
 abbrev pub version : ℕ
-version = 500
+version = 600
 
 abbrev pub none : Refusal
 none = record { number = 0; place = 0 }

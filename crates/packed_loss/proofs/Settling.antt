@@ -2,25 +2,25 @@
 -- are zero. Assumes nothing.
 use Prim.Native.Nat.{ℕ, zero, suc, _+_, _-_, _*_, _/_, _%_, _^_, _<_, _≤_}
 use mathlib.Core.Path.{_≡_, refl, sym, ap, ap₂, _∙_}
-use mathlib.Core.Bool.{Bool, true, false}
+use mathlib.Core.Bool.{Bool, true, false, _&&_, not}
 use mathlib.Core.List.{List}
 use native.Mathlib.Omega.{arith}
 use native.Mathlib.Decide.{decLt}
 use native.Mathlib.Nat.{zero-add, zero-div}
-use borrow.Author.Tests.{lt-ltb, le-ltb, ltb-false}
+use borrow.Author.Tests.{lt-ltb, le-ltb, ltb-false, eqb-true, not-false}
 use lib.Bits.{bitOr, or-add-and, and-le-l, and-le-r}
-use lib.Dec.{ltb}
+use lib.Dec.{eqb, ltb}
 use lib.ListN.{getD}
 use Rattle.trace.specs.Sum.{sum, bit, bits, count}
 use Rattle.trace.specs.Trace.{traceMax}
-use Rattle.trace.proofs.Sums.{sum-moved, count-none, count-zero}
+use Rattle.trace.proofs.Sums.{sum-moved, sum-cut, count-none, count-zero}
 use Rattle.batch.specs.Batches.{lossesIn, isOver}
 use Rattle.batch.proofs.Sliding.{Slid, slid, under-counted}
 use Rattle.batch.proofs.Loops.{Tallied, tallied-more}
 use Rattle.packed.specs.Words.{wordBits, oneAt, lostAt, numberOf}
 use Rattle.packed.proofs.Counts.{window-count}
 use Rattle.crossing.specs.Crossing.{overAfter, overAmong}
-use Rattle.packed_loss.specs.Steps.{Settled, Quiet}
+use Rattle.packed_loss.specs.Steps.{Settled, Walked, Quiet}
 
 -- two comparisons, one of which has the same more on both sides
 more-test : (t held left came before : ℕ) → held + left ≡ before + came → ltb (t + left) (before + came) ≡ ltb t held
@@ -108,11 +108,44 @@ tallied-settled lost packets b t from over held k more to losses tallied s =
     let place : k + (to - k) ≡ to = omega arith in
     rw (← place) (tallied-more lost b t from (packets - b) over held k tallied (to - k) more losses (omega arith) (s .held ∙ ap (lossesIn lost b) (sym place)) (s .counts))
 
--- where no batch of a stride is over, each holds at most t
-pub under-settled : (lost : ℕ → Bool) (packets b t k over to losses : ℕ) → Settled lost packets b t k over to losses → over ≡ 0 →
-    (j : ℕ) → k < j → j ≤ to → lossesIn lost b j ≤ t
-under-settled lost packets b t k over to losses s none j l h =
-    ltb-false t (lossesIn lost b j) (count-zero (isOver lost b t) (k + 1) (to - k) (sym (s .counts) ∙ none) j (omega arith) (omega arith))
+pub true-false : true ≡ false → ⊥
+true-false e = let z : _≡_ {A = ℕ} 0 1 = ap number e in omega arith
+  where
+    number : Bool → ℕ
+    number true = 0
+    number false = 1
+
+-- stopped or not: what the walk has come to
+pub walked : (lost : ℕ → Bool) (packets b t from : ℕ) (stop : Bool) (over to losses : ℕ) → Tallied lost b t from (packets - b) over losses to → to + b ≤ packets →
+    (stop ≡ true → over ≡ 0) → (stop ≡ false → packets - b < to + wordBits) → Walked lost packets b t from stop over to losses
+walked lost packets b t from stop over to losses s within stopped all =
+    record { onward = s .low; within = within; held = s .losses; counts = s .part .value; stopped = stopped; all = all }
+
+-- and with the batches behind it
+pub walked-rest : (lost : ℕ → Bool) (packets b t from over to losses more : ℕ) → Walked lost packets b t from false over to losses →
+    more ≡ count (isOver lost b t) (to + 1) (packets - b - to) → over + more ≡ count (isOver lost b t) (from + 1) (packets - b - from)
+walked-rest lost packets b t from over to losses more s counts =
+    let onward = s .onward in
+    let within = s .within in
+    let size : packets - b - from ≡ (to - from) + (packets - b - to) = omega arith in
+    let place : from + 1 + (to - from) ≡ to + 1 = omega arith in
+    omega (
+      arith,
+      s .counts,
+      ap (count (isOver lost b t) (from + 1)) size,
+      sum-cut (bits (isOver lost b t)) (from + 1) (to - from) (packets - b - to),
+      ap (λ (k : ℕ). count (isOver lost b t) k (packets - b - to)) place,
+    )
+
+-- a stride that was not stopped at has none over, where it could be
+pub not-stopped : (stop : Bool) (over : ℕ) → (stop && not (eqb over 0)) ≡ false → stop ≡ true → over ≡ 0
+not-stopped true over h on = eqb-true over 0 (not-false (eqb over 0) h)
+not-stopped false over h on = absurd (true-false (sym on))
+
+-- where none was over, each batch holds at most t
+pub under-walked : (lost : ℕ → Bool) (packets b t k over to losses : ℕ) → Walked lost packets b t k true over to losses → (j : ℕ) → k < j → j ≤ to → lossesIn lost b j ≤ t
+under-walked lost packets b t k over to losses s j l h =
+    ltb-false t (lossesIn lost b j) (count-zero (isOver lost b t) (k + 1) (to - k) (sym (s .counts) ∙ s .stopped refl) j (omega arith) (omega arith))
 
 -- words that are zero
 both-zero : (a b : ℕ) → bitOr a b ≡ 0 → (a ≡ 0) × (b ≡ 0)

@@ -18,7 +18,7 @@ ghost use Rattle.batch.specs.Batches.{lossesIn, isOver, overCount, firstOver};
 ghost use Rattle.batch.specs.Loss.{lossOf, lossAnswer};
 ghost use Rattle.packed.specs.Words.{wordBits, lostAt};
 ghost use Rattle.packed.specs.Judging.{judgedPacked};
-ghost use Rattle.packed_loss.specs.Steps.{group, Fitting, Settled, Quiet};
+ghost use Rattle.packed_loss.specs.Steps.{group, Fitting, Settled, Walked, Quiet};
 
 // Words that are looked at together for a loss.
 const GROUP: usize = 8;
@@ -77,7 +77,14 @@ fn first_over(w: &[u64], packets: usize, batch: usize, threshold: usize) -> Reac
     let mut first = First::None;
     let mut start = 0;
     'batches: while start < last {
-        let passed = pass_under(w, packets, batch, threshold, Running { start, losses });
+        let passed = go_on(
+            w,
+            packets,
+            batch,
+            threshold,
+            Running { start, losses },
+            true,
+        );
         start = passed.start;
         losses = passed.losses;
         let end = stride_end(start, last);
@@ -93,25 +100,37 @@ fn first_over(w: &[u64], packets: usize, batch: usize, threshold: usize) -> Reac
     Reached { first, losses }
 }
 
-// Goes on from a batch that is not over, stride by stride, as long as none is over.
-fn pass_under(w: &[u64], packets: usize, batch: usize, threshold: usize, from: Running) -> Running
-    requires { ⌜ Fitting packets batch threshold × (from .start + batch ≤ packets) × (from .losses ≡ lossesIn (lostAt (now w)) batch (from .start)) × (from .losses ≤ threshold) ⌝ }
-    ensures place { λ r. ⌜ (from .start ≤ r .start) × (r .start + batch ≤ packets) ⌝ }
-    ensures losses { λ r. ⌜ r .losses ≡ lossesIn (lostAt (now (w .entry))) batch (r .start) ⌝ }
-    ensures under { λ r. ⌜ ((j : ℕ) → from .start ≤ j → j ≤ r .start → lossesIn (lostAt (now (w .entry))) batch j ≤ threshold) ⌝ }
+// Goes on from a batch by strides, as far as these go, and counts the batches over the threshold; where it is told to stop, no
+// further than strides without one. Search and count go through here, so that the code of a stride stands in the library once.
+fn go_on(
+    w: &[u64],
+    packets: usize,
+    batch: usize,
+    threshold: usize,
+    from: Running,
+    stop: bool,
+) -> Stride
+    requires { ⌜ Fitting packets batch threshold × (from .start + batch ≤ packets) × (from .losses ≡ lossesIn (lostAt (now w)) batch (from .start)) ⌝ }
+    ensures { λ r. ⌜ Walked (lostAt (now (w .entry))) packets batch threshold (from .start) stop (r .over) (r .start) (r .losses) ⌝ }
 {
     let last = packets - batch;
+    let mut over = 0;
     let mut start = from.start;
     let mut losses = from.losses;
     while start + WORD <= last {
         let next = settle(w, packets, batch, threshold, Running { start, losses });
-        if next.over != 0 {
+        if stop & (next.over != 0) {
             break;
         }
+        over += next.over;
         start = next.start;
         losses = next.losses;
     }
-    Running { start, losses }
+    Stride {
+        over,
+        start,
+        losses,
+    }
 }
 
 // Where the stride after batch k ends: no further than the last batch.
@@ -137,25 +156,18 @@ fn over_count(w: &[u64], packets: usize, batch: usize, threshold: usize, reached
     }
 }
 
-// How many batches after a batch are over the threshold, stride by stride.
+// How many batches after a batch are over the threshold: by strides, and the rest one by one.
 fn over_after(w: &[u64], packets: usize, batch: usize, threshold: usize, from: Running) -> usize
     requires { ⌜ Fitting packets batch threshold × (from .start + batch ≤ packets) × (from .losses ≡ lossesIn (lostAt (now w)) batch (from .start)) ⌝ }
     ensures { λ r. ⌜ r ≡ count (isOver (lostAt (now (w .entry))) batch threshold) (from .start + 1) (packets - batch - from .start) ⌝ }
 {
-    let last = packets - batch;
-    let mut over = 0;
-    let mut start = from.start;
-    let mut losses = from.losses;
-    while start + WORD <= last {
-        let next = settle(w, packets, batch, threshold, Running { start, losses });
-        over += next.over;
-        start = next.start;
-        losses = next.losses;
-    }
+    let walked = go_on(w, packets, batch, threshold, from, false);
+    let start = walked.start;
+    let losses = walked.losses as u32;
+    let left = (packets - batch - start) as u32;
     let entering = packed::window(w, start + batch);
     let leaving = packed::window(w, start);
-    let left = (last - start) as u32;
-    over + crossing::one_by_one(threshold as u32, losses as u32, entering, leaving, left)
+    walked.over + crossing::one_by_one(threshold as u32, losses, entering, leaving, left)
 }
 
 // The stride after a batch that is not within 64 of the last: 64 batches, or where the batch holds no loss as many as go by until
@@ -165,19 +177,26 @@ fn settle(w: &[u64], packets: usize, batch: usize, threshold: usize, from: Runni
     ensures { λ r. ⌜ Settled (lostAt (now (w .entry))) packets batch threshold (from .start) (r .over) (r .start) (r .losses) ⌝ }
 {
     let start = from.start;
-    let losses = from.losses;
+    let end = clear_until(w, packets, start + batch, from.losses);
+    if start + batch < end {
+        return Stride {
+            over: 0,
+            start: end - batch,
+            losses: 0,
+        };
+    }
+    settle_word(w, packets, batch, threshold, from)
+}
+
+// Where a batch holds no loss, the packets from packet i behind it up to this one are not lost.
+fn clear_until(w: &[u64], packets: usize, i: usize, losses: usize) -> usize
+    requires { ⌜ (packets ≤ traceMax) × (i ≤ packets) ⌝ }
+    ensures { λ r. ⌜ (r ≤ packets) × (i < r → losses ≡ 0) × ((j : ℕ) → i ≤ j → j < r → lostAt (now (w .entry)) j ≡ false) ⌝ }
+{
     if losses != 0 {
-        return settle_word(w, packets, batch, threshold, from);
+        return i;
     }
-    let end = quiet_end(w, packets, start + batch);
-    if end <= start + batch {
-        return settle_word(w, packets, batch, threshold, from);
-    }
-    Stride {
-        over: 0,
-        start: end - batch,
-        losses: 0,
-    }
+    quiet_end(w, packets, i)
 }
 
 // The 64 batches after a batch, by the packets that enter and those that leave.

@@ -91,7 +91,7 @@ fn fill_word(
 }
 
 // The packets from packet i up to `end`, no more than a word of them, one by one. A lost packet is marked when `threshold` without a
-// mark already stand among the `batch` - 1 packets before it.
+// mark already stand among the `batch` - 1 packets before it: with it they would be one more. Nothing here branches on a packet.
 fn fill_each(
     w: &[u64],
     packets: usize,
@@ -111,20 +111,13 @@ fn fill_each(
     let mut marks = 0;
     let mut next = i;
     while next < end {
-        let at = next;
-        let lost = enters % 2;
-        let before = slide(w, out, batch, at, left, leaves % 2);
+        let held = slide(w, out, batch, next, left, leaves % 2) + (enters % 2) as usize;
+        left = least(held, threshold);
+        out[next] = (held - left) as u8;
+        marks += held - left;
         enters = enters / 2;
         leaves = leaves / 2;
         next += 1;
-        if lost != 0 {
-            left = least(before + 1, threshold);
-            out[at] = (before + 1 - left) as u8;
-            marks += before + 1 - left;
-        } else {
-            left = before;
-            out[at] = 0;
-        }
     }
     Filled { left, marks }
 }
@@ -134,11 +127,11 @@ fn slide(w: &[u64], plan: &[u8], batch: usize, i: usize, left: usize, gone: u64)
     requires { ⌜ (1 ≤ batch) × (i < length (now plan)) × (gone ≡ bit (behind (lostAt (now w)) batch i)) × (leaving (lostAt (now w)) batch (now plan) i ≤ left) × (batch ≤ i → getD (now plan) (i - batch) 0 ≤ bit (lostAt (now w) (i - batch))) ⌝ }
     ensures { λ r. ⌜ r ≡ left - leaving (lostAt (now (w .entry))) batch (now (plan .entry)) i ⌝ }
 {
-    if gone == 0 {
+    if i < batch {
         return left;
     }
     let at = i - batch;
-    left - (1 - plan[at] as usize)
+    left - (gone as usize - plan[at] as usize)
 }
 
 // Of the 64 packets from packet i on: whether a lost one stands `batch` before each, the first in the lowest bit.

@@ -9,7 +9,7 @@ ghost use Rattle.refusal.specs.Table.{blockPastEnd, traceByte};
 #[repr(C)]
 pub struct Refusal {
     pub number: u32, // from 1; at the boundary to C 0 is no refusal, and the rest of the answer then holds
-    pub place: usize, // 6: the block's offset; 9: the byte's index in a trace; 0 elsewhere
+    pub place: usize, // 6: the block's offset; 9: the byte's index in a trace, the bit's in a packed one; 0 elsewhere
 }
 
 // What judging an input comes to: it is accepted, or why not.

@@ -6,6 +6,7 @@ use mathlib.Core.Bool.{Bool, true, false, _&&_, not}
 use mathlib.Core.List.{List, _++_}
 use native.Mathlib.Omega.{arith}
 use native.Mathlib.Decide.{decLe}
+use native.Mathlib.Nat.{add-zero}
 use native.Mathlib.Numerals.{add-one}
 use borrow.Author.Tests.{le-leb, lt-leb}
 use lib.Dec.{eqb}
@@ -150,6 +151,20 @@ module _ (lost : ℕ → Bool) (b t e : ℕ) (old : List ℕ) where
           let same = is ∙ slid in
           let way = passes _ _ _ _ _ (rule lost b t e i l) (rw h) (omega (arith, few)) in
           enters l (r + 1 - n) n (so-far + (r + 1 - n)) (omega arith) (omega arith) refl
+
+      -- marked or not, as one sum: with the packet's bit, and no more than t of them left
+      pub enters-any : i < e → (x n : ℕ) → x ≡ bit (lost i) → n ≡ min (r + x) t → (r + x - n ≤ 1) × Before (set out i (r + x - n)) n (so-far + (r + x - n)) (i + 1)
+      unfolding bit
+      enters-any l x n is least = go (lost i) refl
+        where
+          go : (y : Bool) → lost i ≡ y → (r + x - n ≤ 1) × Before (set out i (r + x - n)) n (so-far + (r + x - n)) (i + 1)
+          go true h = let one : x ≡ 1 = is ∙ rw h in let small = few in (omega arith, rw one (enters-lost l h n (least ∙ rw one)))
+          go false h =
+              let none : x ≡ 0 = is ∙ rw h in
+              let small = few in
+              let same : n ≡ r = omega arith in
+              let unmarked : r + 0 - r ≡ 0 = omega arith in
+              (omega arith, rw (none, same, unmarked, add-zero so-far) (enters-fine l h))
 
     pub filling-all : e ≤ i → (so-far ≡ marks ours) × (out ≡ ours ++ drop e old)
     filling-all h =

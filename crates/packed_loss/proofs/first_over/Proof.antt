@@ -7,7 +7,8 @@ use Rattle.packed.specs.Words.{lostAt}
 use Rattle.trace.proofs.Sums.{bit-le}
 use Rattle.batch.specs.declared.First.the-variants.{None}
 use Rattle.batch.proofs.Sliding.{Slid, slid-one}
-use Rattle.batch.proofs.Loops.{Under, under-first, under-more, under-next, under-small, under-here, handed-here, handed-next, handed-none}
+use Rattle.batch.proofs.Loops.{Under, under-first, under-more, under-next, under-small, handed-here, handed-next, handed-none}
+use Rattle.packed_loss.proofs.Settling.{under-walked}
 use Rattle.packed_loss.proofs.first_over.Statement.{statement}
 use Rattle.packed_loss.proofs.first_over.Tie as tie
 
@@ -46,17 +47,17 @@ returns c = handed-here _ _ _ _ 0 _ (omega arith) (c .before .first-losses .ensu
 batches-holds : tie.Need-batches-holds Inv-loop μ-loop Inv-batches μ-batches
 batches-holds c = (under-first _ _ _ _ _ _ (omega arith) (c .before .first-losses .ensures) (omega arith), refl)
 
-pass-under-requires : tie.Need-pass-under-requires Inv-loop μ-loop Inv-batches μ-batches
-pass-under-requires c κs = let u = c .before .batches .inv .0 in (c .before .before .before .before .before .pre, u .within, u .losses, under-here _ _ _ _ _ _ _ u (omega arith))
+go-on-requires : tie.Need-go-on-requires Inv-loop μ-loop Inv-batches μ-batches
+go-on-requires c κs = let u = c .before .batches .inv .0 in (c .before .before .before .before .before .pre, u .within, u .losses)
 
 stride-end-requires : tie.Need-stride-end-requires Inv-loop μ-loop Inv-batches μ-batches
-stride-end-requires c κs = omega (arith, c .pass-under .ensures .0)
+stride-end-requires c κs = omega (arith, c .go-on .ensures .within)
 
 loop-holds : tie.Need-loop-holds Inv-loop μ-loop Inv-batches μ-batches
 loop-holds c =
-    let r = c .before .pass-under .ensures in
+    let r = c .before .go-on .ensures in
     let inv = c .before .before .before .batches .inv in
-    (under-more _ _ _ _ _ _ _ (inv .0) _ _ (r .0 .1) (r .1 .0) (λ j l w. r .1 .1 j (omega arith) w), inv .1, omega arith)
+    (under-more _ _ _ _ _ _ _ (inv .0) _ _ (r .within) (r .held) (under-walked _ _ _ _ _ _ _ _ r), inv .1, omega arith)
 
 batches-less : tie.Need-batches-less Inv-loop μ-loop Inv-batches μ-batches
 batches-less c = omega arith
@@ -108,7 +109,7 @@ first-over-spec =
     first-losses-requires
     returns
     batches-holds
-    pass-under-requires
+    go-on-requires
     stride-end-requires
     loop-holds
     batches-less

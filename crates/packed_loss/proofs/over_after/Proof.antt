@@ -1,116 +1,85 @@
--- `packed_loss::over_after` meets its contract. The loop's invariant is `Tallied`. Assumes nothing.
+-- `packed_loss::over_after` meets its contract. Assumes nothing.
 use Prim.Native.Nat.{ℕ, _+_, _-_, _≤_}
-use mathlib.Core.Path.{refl, ap₂, _∙_}
+use mathlib.Core.Path.{_≡_, refl, ap₂, _∙_}
 use native.Mathlib.Omega.{arith}
-use Rattle.batch.specs.Batches.{lossesIn}
-use Rattle.batch.proofs.Loops.{Tallied, tallied-none, tallied-more, tallied-small, tallied-all}
+use Rattle.trace.specs.Sum.{count}
+use Rattle.trace.proofs.Sums.{count-most}
+use Rattle.batch.specs.Batches.{isOver}
 use Rattle.packed.specs.Words.{lostAt}
 use Rattle.crossing.specs.Crossing.{overAmong}
-use Rattle.packed_loss.proofs.Settling.{settled, tallied-settled}
+use Rattle.packed_loss.proofs.Settling.{settled, walked-rest}
 use borrow.Author.Needs.{needs}
 use Rattle.packed_loss.proofs.over_after.Statement.{statement}
 use Rattle.packed_loss.proofs.over_after.Tie as tie
 
-abbrev Inv-loop : tie.InvT-loop
-Inv-loop w packets batch threshold last over₀ start₀ losses₀ over start losses = Tallied (lostAt w) batch threshold start₀ last over losses start × (start ≤ last)
+go-on-requires : tie.Need-go-on-requires
+go-on-requires c κs = search needs
 
-abbrev μ-loop : tie.MeasureT-loop
-μ-loop w packets batch threshold last over₀ start₀ losses₀ over start losses = last - start
+-- a batch holds no more than its packets
+small : (c : tie.After-go-on) → c .go-on .result .losses ≤ c .before .before .args .batch
+small c = let a = c .before .before .args in omega (arith, c .go-on .ensures .held, count-most (lostAt (a .w .now)) (c .go-on .result .start) (a .batch))
 
-sub-last : tie.Need-sub-last Inv-loop μ-loop
-sub-last c = omega (arith, c .before .pre .1)
+cast-losses : tie.Need-cast-losses
+cast-losses c = omega (arith, small (c .before), c .before .before .before .pre .0 .within, c .before .before .before .pre .0 .most)
 
-loop-holds : tie.Need-loop-holds Inv-loop μ-loop
-loop-holds c = (tallied-none _ _ _ _ _ _ (c .before .pre .2), omega (arith, c .before .pre .1))
+sub-left : tie.Need-sub-left
+sub-left c = search needs
 
-add-loop : tie.Need-add-loop Inv-loop μ-loop
-add-loop c = omega (arith, c .before .before .pre .0 .most)
+sub-left-2 : tie.Need-sub-left-2
+sub-left-2 c = search needs
 
-settle-requires : tie.Need-settle-requires Inv-loop μ-loop
-settle-requires c κs = (c .before .before .before .pre .0, omega arith, c .before .loop .inv .0 .losses)
+cast-left : tie.Need-cast-left
+cast-left c = search needs
 
--- a stride further
-turned : (c : tie.After-struct-known Inv-loop μ-loop) →
-    let a = c .before .before .before .before .before .args in
-    let l = c .before .before .before .loop in
-    let s = c .before .settle .result in
-    Tallied (lostAt (a .w .now)) (a .batch) (a .threshold) (a .from .start) (a .packets - a .batch) (l .over + s .over) (s .losses) (s .start)
-turned c = tallied-settled _ _ _ _ _ _ _ _ _ _ _ (c .before .before .before .loop .inv .0) (c .before .settle .ensures)
+add-window : tie.Need-add-window
+add-window c = search needs
 
-add-over : tie.Need-add-over Inv-loop μ-loop
-add-over c = omega (arith, tallied-small _ _ _ _ _ _ _ _ (turned c), c .before .before .before .before .before .pre .0 .most, c .before .settle .ensures .within)
-
-loop-less : tie.Need-loop-less Inv-loop μ-loop
-loop-less c = omega (arith, c .before .settle .ensures .onward)
-
-loop-again : tie.Need-loop-again Inv-loop μ-loop
-loop-again c = (turned c, omega (arith, c .before .settle .ensures .within))
-
-add-window : tie.Need-add-window Inv-loop μ-loop
-add-window c = omega (arith, c .before .before .before .pre .0 .most)
-
-window-requires : tie.Need-window-requires Inv-loop μ-loop
+window-requires : tie.Need-window-requires
 window-requires c κs = search needs
 
-window-requires-2 : tie.Need-window-requires-2 Inv-loop μ-loop
+window-requires-2 : tie.Need-window-requires-2
 window-requires-2 c κs = search needs
 
-sub-left : tie.Need-sub-left Inv-loop μ-loop
-sub-left c = c .before .before .before .loop .inv .1
+cast-one-by-one : tie.Need-cast-one-by-one
+cast-one-by-one c = search needs
 
-cast-left : tie.Need-cast-left Inv-loop μ-loop
-cast-left c = omega (arith, c .before .before .before .before .before .pre .0 .most)
-
-cast-one-by-one : tie.Need-cast-one-by-one Inv-loop μ-loop
-cast-one-by-one c = omega (arith, c .before .before .before .before .before .pre .0 .low)
-
-cast-one-by-one-2 : tie.Need-cast-one-by-one-2 Inv-loop μ-loop
-cast-one-by-one-2 c = omega (arith, tallied-small _ _ _ _ _ _ _ _ (c .before .before .before .loop .inv .0), c .before .before .before .before .before .pre .0 .within, c .before .before .before .before .before .pre .0 .most)
-
-one-by-one-requires : tie.Need-one-by-one-requires Inv-loop μ-loop
+one-by-one-requires : tie.Need-one-by-one-requires
 one-by-one-requires c κs = search needs
 
--- and the batches behind the last stride
-whole : (c : tie.After-one-by-one Inv-loop μ-loop) →
+-- by strides, and the rest
+whole : (c : tie.After-one-by-one) →
     let a = c .before .before .before .before .before .before .args in
-    let l = c .before .before .before .before .loop in
-    let n = a .packets - a .batch - l .start in
-    let lost = lostAt (a .w .now) in
-    Tallied lost (a .batch) (a .threshold) (a .from .start) (a .packets - a .batch) (l .over + c .one-by-one .result) (lossesIn lost (a .batch) (l .start + n)) (l .start + n)
+    c .before .before .before .before .go-on .result .over + c .one-by-one .result ≡ count (isOver (lostAt (a .w .now)) (a .batch) (a .threshold)) (a .from .start + 1) (a .packets - a .batch - a .from .start)
 whole c =
     let a = c .before .before .before .before .before .before .args in
-    let l = c .before .before .before .before .loop in
-    let n : ℕ = a .packets - a .batch - l .start in
-    tallied-more _ _ _ _ _ _ _ _ (l .inv .0) n _ _ (omega (arith, l .inv .1)) refl
-    (c .one-by-one .ensures ∙ ap₂ (λ (x y : ℕ). overAmong (a .threshold) (l .losses) x y n) (c .before .before .window .ensures) (c .before .window2 .ensures)
-    ∙ settled (lostAt (a .w .now)) (a .batch) (a .threshold) (l .start) (l .losses) (l .inv .0 .losses) n (omega arith))
+    let s = c .before .before .before .before .go-on .ensures in
+    let k = c .before .before .before .before .go-on .result .start in
+    let n : ℕ = a .packets - a .batch - k in
+    let all = s .all refl in
+    let within = s .within in
+    walked-rest (lostAt (a .w .now)) (a .packets) (a .batch) (a .threshold) (a .from .start) _ _ _ _ s
+    (c .one-by-one .ensures ∙ ap₂ (λ (x y : ℕ). overAmong (a .threshold) (c .before .before .before .before .go-on .result .losses) x y n) (c .before .before .window .ensures) (c .before .window2 .ensures)
+    ∙ settled (lostAt (a .w .now)) (a .batch) (a .threshold) k _ (s .held) n (omega arith))
 
-add-result : tie.Need-add-result Inv-loop μ-loop
-add-result c = omega (arith, tallied-small _ _ _ _ _ _ _ _ (whole c), c .before .before .before .before .before .before .pre .0 .most)
+add-result : tie.Need-add-result
+add-result c = let a = c .before .before .before .before .before .before .before .args in omega (arith, whole (c .before), count-most (isOver (lostAt (a .w .now)) (a .batch) (a .threshold)) (a .from .start + 1) (a .packets - a .batch - a .from .start), c .before .before .before .before .before .before .before .pre .0 .most)
 
-returns : tie.Need-returns Inv-loop μ-loop
-returns c = tallied-all _ _ _ _ _ _ _ _ (whole c) (omega (arith, c .before .before .before .before .loop .inv .1))
+returns : tie.Need-returns
+returns c = whole (c .before)
 
 pub over-after-spec : {M : Type 1} → statement M
 over-after-spec =
     tie.close
     (tie.spec
-    Inv-loop
-    μ-loop
-    sub-last
-    loop-holds
-    add-loop
-    settle-requires
-    add-over
-    loop-less
-    loop-again
+    go-on-requires
+    cast-losses
+    sub-left
+    sub-left-2
+    cast-left
     add-window
     window-requires
     window-requires-2
-    sub-left
-    cast-left
     cast-one-by-one
-    cast-one-by-one-2
     one-by-one-requires
     add-result
     returns)

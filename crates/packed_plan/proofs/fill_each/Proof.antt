@@ -1,20 +1,19 @@
--- `packed_plan::fill_each` meets its contract. The loop's invariant is `Filling`, and each arm is one of the two ways of a packet.
+-- `packed_plan::fill_each` meets its contract. The loop's invariant is `Filling`.
 -- Assumes nothing.
 use Prim.Native.Nat.{ℕ, _+_, _-_, _/_, _%_, _^_, _<_, _≤_}
 use mathlib.Core.Path.{_≡_, refl, sym, ap, _∙_}
-use mathlib.Core.Bool.{true}
 use native.Mathlib.Omega.{arith}
 use native.Mathlib.Nat.{add-zero, add-assoc, div-one}
 use borrow.Author.Needs.{needs}
-use lib.ListN.{length}
+use lib.ListN.{length, set}
 use Rattle.trace.specs.Sum.{bit, count}
 use Rattle.resend.specs.Plans.{marked}
 use Rattle.resend.specs.Greedy.{planOf}
 use Rattle.resend.specs.Steps.{Filling}
-use Rattle.resend.proofs.Filling.{filling-length, filling-small, slid-some, slid-small, marks-lost, mark-small, enters-lost, enters-fine}
+use Rattle.resend.proofs.Filling.{filling-length, filling-small, slid-some, slid-small, marks-lost, enters-any}
 use Rattle.packed.specs.Words.{wordBits, lostAt, numberOf}
 use Rattle.packed_plan.specs.Steps.{behind}
-use Rattle.packed_plan.proofs.Leaving.{bit-here, later, lost-of, fine-of}
+use Rattle.packed_plan.proofs.Leaving.{bit-here, later}
 use Rattle.packed_plan.proofs.fill_each.Statement.{statement}
 use Rattle.packed_plan.proofs.fill_each.Tie as tie
 
@@ -63,9 +62,6 @@ slide-requires c κs =
     let f = c .before .before .loop .inv .0 in
     (f .least, omega (arith, long (c .before .before), f .room, c .before .before .before .before .before .before .before .pre .3), leaves-now (c .before), slid-some _ _ _ _ _ _ _ _ _ f, marks-lost _ _ _ _ _ _ _ _ _ f)
 
-add-next : tie.Need-add-next Inv-loop μ-loop
-add-next c = omega arith
-
 -- both counts are at most the number of packets so far
 few-left : (c : tie.After-slide Inv-loop μ-loop) → c .slide .result ≤ c .before .before .before .loop .next
 few-left c = rw (c .slide .ensures) (slid-small _ _ _ _ _ _ _ _ _ (c .before .before .before .loop .inv .0))
@@ -73,65 +69,50 @@ few-left c = rw (c .slide .ensures) (slid-small _ _ _ _ _ _ _ _ _ (c .before .be
 few-marks : (c : tie.At-loop Inv-loop μ-loop) → c .loop .marks ≤ c .loop .next
 few-marks c = omega (arith, filling-small _ _ _ _ _ _ _ _ _ (c .loop .inv .0))
 
-add-least : tie.Need-add-least Inv-loop μ-loop
-add-least c = omega (arith, few-left (c .before))
+add-held : tie.Need-add-held Inv-loop μ-loop
+add-held c = omega (arith, few-left c)
 
 least-requires : tie.Need-least-requires Inv-loop μ-loop
 least-requires c κs = search needs
 
--- a packet has one mark or none
-one : (c : tie.After-least Inv-loop μ-loop) → c .before .before .slide .result + 1 - c .least .result ≤ 1
-one c = mark-small _ _ _ _ _ _ _ _ _ (c .before .before .before .before .before .loop .inv .0) _ (c .before .before .slide .ensures) _ (c .least .ensures)
-
-add-out : tie.Need-add-out Inv-loop μ-loop
-add-out c = omega (arith, few-left (c .before .before))
+-- the packet enters, marked or not
+turned : (c : tie.After-least Inv-loop μ-loop) →
+    let a = c .before .before .before .before .before .before .before .before .before .args in
+    let l = c .before .before .before .before .loop in
+    let mark = c .before .slide .result + l .enters % 2 - c .least .result in
+    (mark ≤ 1)
+    × Filling (lostAt (a .w .now)) (a .batch) (a .threshold) (a .packets) (a .out .now) (set (l .out) (l .next) mark) (c .least .result)
+    (count (marked (planOf (lostAt (a .w .now)) (a .batch) (a .threshold) (a .packets))) 0 (a .i) + l .marks + mark) (l .next + 1)
+turned c =
+    let s = c .before .before .before .before .before .before .before .before .before in
+    enters-any _ _ _ _ _ _ _ _ _ (c .before .before .before .before .loop .inv .0) _ (c .before .slide .ensures) (omega (arith, s .pre .3)) _ _ (enters-now (c .before .before .before)) (c .least .ensures)
 
 sub-out : tie.Need-sub-out Inv-loop μ-loop
 sub-out c = omega (arith, c .least .ensures)
 
 cast-out : tie.Need-cast-out Inv-loop μ-loop
-cast-out c = omega (arith, one c)
+cast-out c = omega (arith, turned c .0)
 
 slice-write-out : tie.Need-slice-write-out Inv-loop μ-loop
-slice-write-out c = omega (arith, long (c .before .before .before .before .before), c .before .before .before .before .before .loop .inv .0 .room, c .before .before .before .before .before .before .before .before .before .before .pre .3)
-
-add-marks : tie.Need-add-marks Inv-loop μ-loop
-add-marks c = omega (arith, few-left (c .before .before))
+slice-write-out c = omega (arith, long (c .before .before .before .before), c .before .before .before .before .loop .inv .0 .room, c .before .before .before .before .before .before .before .before .before .pre .3)
 
 sub-marks : tie.Need-sub-marks Inv-loop μ-loop
 sub-marks c = omega (arith, c .least .ensures)
 
-add-marks-2 : tie.Need-add-marks-2 Inv-loop μ-loop
-add-marks-2 c = omega (arith, few-marks (c .before .before .before .before .before), one c)
+add-marks : tie.Need-add-marks Inv-loop μ-loop
+add-marks c = omega (arith, few-marks (c .before .before .before .before), turned c .0)
+
+add-next : tie.Need-add-next Inv-loop μ-loop
+add-next c = omega arith
 
 loop-less : tie.Need-loop-less Inv-loop μ-loop
 loop-less c = omega arith
 
 loop-again : tie.Need-loop-again Inv-loop μ-loop
 loop-again c =
-    let s = c .before .before .before .before .before .before .before .before .before .before in
-    let l = c .before .before .before .before .before .loop in
-    let is-lost = lost-of (lostAt (s .args .w .now) (l .next)) (λ none. omega (arith, enters-now (c .before .before .before .before))) in (
-      rw (← add-assoc _ (l .marks) (c .before .before .slide .result + 1 - c .least .result))
-          (enters-lost _ _ _ _ _ _ _ _ _ (l .inv .0) _ (c .before .before .slide .ensures) (omega (arith, s .pre .3)) is-lost _ (c .least .ensures)),
-      omega (arith, l .inv .1),
-      omega arith,
-      later (lostAt (s .args .w .now)) (s .args .i) (l .next) _ (l .inv .1) (l .inv .3),
-      later (behind (lostAt (s .args .w .now)) (s .args .batch)) (s .args .i) (l .next) _ (l .inv .1) (l .inv .4),
-    )
-
-slice-write-out-2 : tie.Need-slice-write-out-2 Inv-loop μ-loop
-slice-write-out-2 c = omega (arith, long (c .before .before .before .before), c .before .before .before .before .loop .inv .0 .room, c .before .before .before .before .before .before .before .before .before .pre .3)
-
-loop-less-2 : tie.Need-loop-less-2 Inv-loop μ-loop
-loop-less-2 c = omega arith
-
-loop-again-2 : tie.Need-loop-again-2 Inv-loop μ-loop
-loop-again-2 c =
     let s = c .before .before .before .before .before .before .before .before .before in
-    let l = c .before .before .before .before .loop in
-    let fine = fine-of _ (sym (enters-now (c .before .before .before)) ∙ omega arith) in (
-      enters-fine _ _ _ _ _ _ _ _ _ (l .inv .0) _ (c .before .slide .ensures) (omega (arith, s .pre .3)) fine,
+    let l = c .before .before .before .before .loop in (
+      rw (← add-assoc _ (l .marks) (c .before .slide .result + l .enters % 2 - c .least .result)) (turned c .1),
       omega (arith, l .inv .1),
       omega arith,
       later (lostAt (s .args .w .now)) (s .args .i) (l .next) _ (l .inv .1) (l .inv .3),
@@ -154,20 +135,15 @@ fill-each-spec =
     gone-requires
     loop-holds
     slide-requires
-    add-next
-    add-least
+    add-held
     least-requires
-    add-out
     sub-out
     cast-out
     slice-write-out
-    add-marks
     sub-marks
-    add-marks-2
+    add-marks
+    add-next
     loop-less
     loop-again
-    slice-write-out-2
-    loop-less-2
-    loop-again-2
     same-length
     returns)

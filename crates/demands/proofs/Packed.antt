@@ -1,0 +1,66 @@
+-- The packed form and the byte form answer alike: specs/Packed.antt. Assumes nothing.
+use Prim.Native.Nat.{ℕ, _≤_}
+use mathlib.Core.Path.{_≡_, sym, ap, ap₂, _∙_}
+use mathlib.Core.Bool.{Bool}
+use mathlib.Core.List.{List}
+use native.Mathlib.Omega.{arith}
+use lib.ListN.{length, take}
+use Rattle.refusal.specs.declared.Judged.{Judged}
+use Rattle.refusal.specs.declared.Judged.the-variants.{Accepted}
+use Rattle.trace.specs.declared.Event.the-variants.{Lost}
+use Rattle.trace.specs.Trace.{lost, packetMax, traceMax, countedAt, judged}
+use Rattle.trace.specs.Laws.{IsWithin}
+use Rattle.trace.proofs.Judging.{within-accepted}
+use Rattle.batch.specs.Loss.{lossAnswer}
+use Rattle.batch.proofs.Same.{same-loss}
+use Rattle.resend.specs.Answer.{planAnswer, bufferAfter, Plannable}
+use Rattle.resend.proofs.Same.{same-plan}
+use Rattle.packed.specs.Words.{wordsFor, lostAt}
+use Rattle.packed.specs.Judging.{judgedPacked}
+use Rattle.packed.proofs.Laws.{accepted-packed, packed-accepted, first-past, needed-packets, needed-verdict}
+use Rattle.packing.specs.Laws.{packedInto}
+use Rattle.packing.proofs.BothWays.{packed-form, pack-unpack, unpack-pack}
+use Rattle.demands.specs.Packed.{packedLoss, packedPlan, packedPlanAfter, SameFigures, NeededAlone, PackedKept}
+
+-- a trace without discards is an accepted trace
+accepted : (s : List ℕ) → IsWithin traceMax lost s → judged s ≡ Accepted
+accepted s t = within-accepted traceMax packetMax s (record { some = t .some; most = t .most; each = λ i h. let each = t .each i h in omega arith })
+
+pub same-figures : (s buffer : List ℕ) (b t : ℕ) (out : List ℕ) → IsWithin traceMax lost s → wordsFor (length s) ≤ length buffer → SameFigures s (packedInto s buffer) b t out
+same-figures s buffer b t out w enough =
+    let words : List ℕ = packedInto s buffer in
+    let form = packed-form s buffer w enough in
+    let verdict : judgedPacked words (length s) ≡ judged s = packed-accepted words (length s) (form .packed) ∙ sym (accepted s w) in
+    let plans = same-plan (judged s) (lostAt words) (countedAt Lost s) (length s) b t out (form .same) in
+    record {
+      loss = ap (λ (v : Judged). lossAnswer v (lostAt words) (length s) b t) verdict ∙ same-loss (judged s) (lostAt words) (countedAt Lost s) (length s) b t (form .same);
+      plan = ap (λ (v : Judged). planAnswer v (lostAt words) (length s) b t out) verdict ∙ plans .0;
+      bytes = ap (λ (v : Judged). bufferAfter v (lostAt words) (length s) b t out) verdict ∙ plans .1;
+    }
+
+needed-alone : (words : List ℕ) (packets b t : ℕ) (out : List ℕ) → NeededAlone words packets b t out
+needed-alone words packets b t out =
+    let few : List ℕ = take (wordsFor packets) words in
+    let verdict = needed-verdict words packets in
+    let same = needed-packets words packets in
+    let plans = same-plan (judgedPacked words packets) (lostAt few) (lostAt words) packets b t out same in
+    record {
+      loss = ap (λ (v : Judged). lossAnswer v (lostAt few) packets b t) verdict ∙ same-loss (judgedPacked words packets) (lostAt few) (lostAt words) packets b t same;
+      plan = ap (λ (v : Judged). planAnswer v (lostAt few) packets b t out) verdict ∙ plans .0;
+      bytes = ap (λ (v : Judged). bufferAfter v (lostAt few) packets b t out) verdict ∙ plans .1;
+    }
+
+pub packed-kept : PackedKept
+packed-kept =
+    record {
+      form = packed-form;
+      accepted = accepted-packed;
+      accepts = packed-accepted;
+      unpacked = pack-unpack;
+      packed-again = unpack-pack;
+      first-past = first-past;
+      same = same-figures;
+      needed-packets = needed-packets;
+      needed-verdict = needed-verdict;
+      needed = needed-alone;
+    }
