@@ -4,6 +4,7 @@ use mathlib.Core.Path.{_≡_, refl, sym, ap, ap₂, _∙_}
 use mathlib.Core.Bool.{Bool, false}
 use mathlib.Core.List.{List}
 use native.Mathlib.Omega.{arith}
+use native.Mathlib.Decide.{decLe}
 use native.Mathlib.Nat.{add-zero, mul-mod-left}
 use borrow.Author.Tests.{le-leb, lt-leb}
 use lib.ListN.{getD}
@@ -11,10 +12,14 @@ use lib.Pow.{mod-pow-add, shl-shr, shr-shr}
 use Rattle.trace.specs.Sum.{bit}
 use Rattle.trace.proofs.Sums.{bool-bit}
 use Rattle.resend.specs.Steps.{leaving}
-use Rattle.resend.proofs.Filling.{leaves-less}
+use Rattle.resend.proofs.Filling.{leaves-less, slides-none}
 use Rattle.packed.specs.Words.{wordBits, numberOf}
 use Rattle.packed.proofs.Numbers.{number-low, number-cut, number-same, number-zero, number-at}
 use Rattle.packed_plan.specs.Steps.{behind}
+
+none-one : bit false ≡ 1 → ⊥
+unfolding bit
+none-one e = omega arith
 
 module _ (lost : ℕ → Bool) (b : ℕ) where
   behind-at : (i : ℕ) → b ≤ i → behind lost b i ≡ lost (i - b)
@@ -53,14 +58,32 @@ module _ (lost : ℕ → Bool) (b : ℕ) where
       in
       shifted ∙ sym (ap (numberOf (behind lost b) i) size ∙ number-cut (behind lost b) i d r ∙ ap₂ (λ (p q : ℕ). p * 2 ^ d + q) front none ∙ add-zero (numberOf lost 0 r * 2 ^ d))
 
-  -- a packet leaves as its bit less its mark
-  pub slides-at : (p : List ℕ) (i gone : ℕ) → b ≤ i → getD p (i - b) 0 ≤ bit (lost (i - b)) → gone ≡ bit (behind lost b i) →
-      (getD p (i - b) 0 ≤ gone) × (gone ≤ 1) × (leaving lost b p i ≡ gone - getD p (i - b) 0)
-  slides-at p i gone h mark is =
-      let less = leaves-less lost b p i h mark (lost (i - b)) refl in
-      let here : gone ≡ bit (lost (i - b)) = is ∙ ap bit (behind-at i h) in
-      let same = bool-bit (lost (i - b)) in
-      (omega arith, omega (arith, less), omega (arith, less))
+  module _ (p : List ℕ) (i : ℕ) (mark : b ≤ i → getD p (i - b) 0 ≤ bit (lost (i - b))) where
+    -- nothing lost leaves
+    pub slides-by : (n : ℕ) → 0 ≡ bit (behind lost b i) → n ≡ n - leaving lost b p i
+    slides-by n none = go (decLe b i)
+      where
+        go : Dec (b ≤ i) → n ≡ n - leaving lost b p i
+        go (yes h) =
+            let less = leaves-less lost b p i h (mark h) (lost (i - b)) refl in
+            let gone : bit (lost (i - b)) ≡ 0 = ap bit (sym (behind-at i h)) ∙ sym none in
+            let byte = mark h in
+            let same = bool-bit (lost (i - b)) in
+            omega (arith, less)
+        go (no h) = slides-none lost b p i n (omega arith)
+
+    -- a lost packet leaves, unless it is marked
+    pub slides-lost : 1 ≡ bit (behind lost b i) → (b ≤ i) × (getD p (i - b) 0 ≤ 1) × (leaving lost b p i ≡ 1 - getD p (i - b) 0)
+    slides-lost one = go (decLe b i)
+      where
+        go : Dec (b ≤ i) → (b ≤ i) × (getD p (i - b) 0 ≤ 1) × (leaving lost b p i ≡ 1 - getD p (i - b) 0)
+        go (yes h) =
+            let less = leaves-less lost b p i h (mark h) (lost (i - b)) refl in
+            let here : bit (lost (i - b)) ≡ 1 = ap bit (sym (behind-at i h)) ∙ sym one in
+            let same = bool-bit (lost (i - b)) in
+            let byte = mark h in
+            (h, omega arith, omega (arith, less))
+        go (no h) = absurd (none-one (sym (ap bit (behind-none i (omega arith))) ∙ sym one))
 
 -- behind j steps of 64: the bits of the next
 module _ (test : ℕ → Bool) (i j : ℕ) where

@@ -91,7 +91,7 @@ fn fill_word(
 }
 
 // The packets from packet i up to `end`, no more than a word of them, one by one. A lost packet is marked when `threshold` without a
-// mark already stand among the `batch` - 1 packets before it: with it they would be one more. Nothing here branches on a packet.
+// mark already stand among the `batch` - 1 packets before it: with it they would be one more.
 fn fill_each(
     w: &[u64],
     packets: usize,
@@ -122,16 +122,17 @@ fn fill_each(
     Filled { left, marks }
 }
 
-// The running count without the packet that stands `batch` before packet i; `gone` says whether one does that is lost.
+// The running count without the packet that stands `batch` before packet i; `gone` says whether one does that is lost. Its mark is read
+// only then: with a small batch it has just been written.
 fn slide(w: &[u64], plan: &[u8], batch: usize, i: usize, left: usize, gone: u64) -> usize
     requires { ⌜ (1 ≤ batch) × (i < length (now plan)) × (gone ≡ bit (behind (lostAt (now w)) batch i)) × (leaving (lostAt (now w)) batch (now plan) i ≤ left) × (batch ≤ i → getD (now plan) (i - batch) 0 ≤ bit (lostAt (now w) (i - batch))) ⌝ }
     ensures { λ r. ⌜ r ≡ left - leaving (lostAt (now (w .entry))) batch (now (plan .entry)) i ⌝ }
 {
-    if i < batch {
+    if gone == 0 {
         return left;
     }
     let at = i - batch;
-    left - (gone as usize - plan[at] as usize)
+    left - (1 - plan[at] as usize)
 }
 
 // Of the 64 packets from packet i on: whether a lost one stands `batch` before each, the first in the lowest bit.
