@@ -5,7 +5,7 @@ use native.Mathlib.Omega.{arith}
 use native.Mathlib.Decide.{ℕ-discrete}
 use native.Mathlib.Nat.{pow-suc, mod-one}
 use lib.Bits.{bitXor, xor-step, differ}
-use lib.Count.{trailingZeros, under}
+use lib.Count.{trailingZeros}
 use lib.Pow.{mod-pow-add}
 
 -- a and b, of at most k bits, agree below bit z, which is one of the k

@@ -1,20 +1,19 @@
 -- What has entered and left until a step, beside what the code keeps of both: the difference alone counts. Assumes nothing.
-use Prim.Native.Nat.{ℕ, zero, suc, _+_, _-_, _*_, _/_, _%_, _^_, _<_, _≤_}
-use mathlib.Core.Path.{_≡_, refl, sym, ap, ap₂, _∙_}
+use Prim.Native.Nat.{ℕ, suc, _+_, _-_, _/_, _%_, _^_, _<_, _≤_}
+use mathlib.Core.Path.{_≡_, refl, sym, ap, _∙_}
 use mathlib.Core.Bool.{Bool, true, false, cond}
 use native.Mathlib.Omega.{arith}
 use native.Mathlib.Decide.{decLt}
-use native.Mathlib.Nat.{zero-add}
 use native.Mathlib.Numerals.{add-one}
-use borrow.Author.Tests.{lt-ltb, le-ltb, ltb-true, ltb-false}
+use borrow.Author.Tests.{lt-ltb, le-ltb}
 use lib.Dec.{ltb}
 use lib.Bits.{bitXor}
 use lib.Count.{ones, trailingZeros}
 use lib.Pow.{mod-mod-pow, shr-shr, shr-lt}
 use mir.Val.{boolByte}
-use Rattle.trace.specs.Sum.{sum, bit, bits, count}
+use Rattle.trace.specs.Sum.{bit, bits, count}
 use Rattle.trace.proofs.Sums.{bool-bit, sum-none, sum-part, count-most, count-none, count-all, upTo-next, upTo-window}
-use Rattle.packed.specs.Words.{wordBits, oneAt, numberOf}
+use Rattle.packed.specs.Words.{wordBits, oneAt}
 use Rattle.packed.proofs.Numbers.{number-of, number-ones, bit-of}
 use Rattle.crossing.specs.Crossing.{overAfter, overAmong}
 use Rattle.crossing.proofs.Differing.{first-differ}

@@ -3,7 +3,6 @@
 // settled in one step.
 ghost use mathlib.Core.Path.{_≡_};
 ghost use mathlib.Core.Bool.{cond};
-ghost use Prim.Native.Nat.{ℕ};
 ghost use lib.Dec.{ltb};
 ghost use Rattle.packed.specs.Words.{wordBits};
 ghost use Rattle.crossing.specs.Crossing.{overAmong};

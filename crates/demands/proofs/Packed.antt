@@ -1,7 +1,6 @@
 -- The packed form and the byte form answer alike: specs/Packed.antt. Assumes nothing.
 use Prim.Native.Nat.{ℕ, _≤_}
-use mathlib.Core.Path.{_≡_, sym, ap, ap₂, _∙_}
-use mathlib.Core.Bool.{Bool}
+use mathlib.Core.Path.{_≡_, sym, ap, _∙_}
 use mathlib.Core.List.{List}
 use native.Mathlib.Omega.{arith}
 use lib.ListN.{length, take}
@@ -13,14 +12,14 @@ use Rattle.trace.specs.Laws.{IsWithin}
 use Rattle.trace.proofs.Judging.{within-accepted}
 use Rattle.batch.specs.Loss.{lossAnswer}
 use Rattle.batch.proofs.Same.{same-loss}
-use Rattle.resend.specs.Answer.{planAnswer, bufferAfter, Plannable}
+use Rattle.resend.specs.Answer.{planAnswer, bufferAfter}
 use Rattle.resend.proofs.Same.{same-plan}
 use Rattle.packed.specs.Words.{wordsFor, lostAt}
 use Rattle.packed.specs.Judging.{judgedPacked}
 use Rattle.packed.proofs.Laws.{accepted-packed, packed-accepted, first-past, needed-packets, needed-verdict}
 use Rattle.packing.specs.Laws.{packedInto}
 use Rattle.packing.proofs.BothWays.{packed-form, pack-unpack, unpack-pack}
-use Rattle.demands.specs.Packed.{packedLoss, packedPlan, packedPlanAfter, SameFigures, NeededAlone, PackedKept}
+use Rattle.demands.specs.Packed.{SameFigures, NeededAlone, PackedKept}
 
 -- a trace without discards is an accepted trace
 accepted : (s : List ℕ) → IsWithin traceMax lost s → judged s ≡ Accepted

@@ -1,7 +1,6 @@
 -- What is asked of a packed trace by itself: document 02, ticket 6. "10, 8 for a word slice too short to read, 9 at the index,
 -- counted on from the packets, of the first nonzero bit past the end in the last needed word".
 use Prim.Native.Nat.{ℕ, _+_, _-_, _*_}
-use mathlib.Core.Bool.{Bool}
 use mathlib.Core.List.{List}
 use lib.Dec.{leb}
 use lib.ListN.{length}

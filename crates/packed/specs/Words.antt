@@ -10,9 +10,6 @@ use Rattle.trace.specs.Sum.{sum, bit}
 abbrev pub wordBits : ℕ
 wordBits = 64
 
-abbrev pub wordEnd : ℕ
-wordEnd = 2 ^ 64
-
 -- bit j of a number is a one
 unfoldable pub oneAt : ℕ → ℕ → Bool
 oneAt x j = eqb (x / 2 ^ j % 2) 1

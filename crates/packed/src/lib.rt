@@ -8,7 +8,7 @@
 use refusal::Judged;
 ghost use mathlib.Core.Path.{_≡_};
 ghost use Prim.Native.Nat.{min};
-ghost use lib.ListN.{length, take};
+ghost use lib.ListN.{take};
 ghost use Rattle.trace.specs.Sum.{bit, count};
 ghost use Rattle.packed.specs.Words.{wordBits, oneAt, lostAt, wordsFor, numberOf};
 ghost use Rattle.packed.specs.Judging.{judgedPacked};
@@ -60,14 +60,14 @@ pub fn window(words: &[u64], i: usize) -> u64
 {
     let word = i / WORD;
     let skipped = i % WORD;
-    if words.len() <= word {
-        return 0;
+    if words.len() <= word + 1 {
+        if words.len() <= word {
+            return 0;
+        }
+        return words[word] >> skipped;
     }
     let low = words[word] >> skipped;
     if skipped == 0 {
-        return low;
-    }
-    if words.len() - 1 == word {
         return low;
     }
     low | (words[word + 1] << (WORD - skipped))

@@ -1,6 +1,6 @@
 -- A word of the plan in one step: where the losses that enter stay within the threshold none is marked, and what leaves the running
 -- count is what was lost less what was marked. Assumes nothing.
-use Prim.Native.Nat.{ℕ, zero, suc, _+_, _-_, _<_, _≤_, min}
+use Prim.Native.Nat.{ℕ, zero, suc, _+_, _-_, _<_, _≤_}
 use mathlib.Core.Path.{_≡_, refl, sym, ap, ap₂, _∙_}
 use mathlib.Core.Bool.{Bool, true, false, _&&_, not}
 use mathlib.Core.List.{List, _++_}
@@ -11,7 +11,7 @@ use lib.Dec.{eqb}
 use lib.ListN.{length, getD, set, take, drop, length-set, List·getD-append}
 use lib.Seq.{length-take-le, getD-take, drop-at, drop-drop}
 use Rattle.trace.specs.Sum.{sum, bit, bits, count}
-use Rattle.trace.proofs.Sums.{bit-le, sum-none, sum-moved, sum-both, sum-part, upTo, upTo-next, upTo-window}
+use Rattle.trace.proofs.Sums.{bit-le, sum-moved, sum-both, sum-part, upTo, upTo-window}
 use Rattle.resend.specs.Plans.{marked, left}
 use Rattle.resend.specs.Greedy.{planOf}
 use Rattle.resend.specs.Steps.{leaving, Filling}

@@ -1,8 +1,7 @@
 -- `crossing::by_change` meets its contract. The loop's invariant is `Crossed`; the words still differ at the next change. Assumes
 -- nothing.
-use Prim.Native.Nat.{ℕ, _+_, _-_, _/_, _%_, _^_, _≤_}
-use mathlib.Core.Path.{_≡_, refl, sym, ap, _∙_}
-use mathlib.Core.Bool.{cond}
+use Prim.Native.Nat.{ℕ, _+_, _-_, _/_, _%_, _^_}
+use mathlib.Core.Path.{_≡_, sym, ap, _∙_}
 use native.Mathlib.Omega.{arith}
 use native.Mathlib.Nat.{div-one}
 use lib.Bits.{bitXor}
@@ -14,7 +13,7 @@ use borrow.Author.Needs.{needs}
 use Rattle.trace.proofs.Sums.{count-most}
 use Rattle.packed.specs.Words.{wordBits}
 use Rattle.crossing.specs.Crossing.{overAfter, overAmong}
-use Rattle.crossing.proofs.Levels.{Change, change-at, Crossed, crossed-none, crossed-small, crossed-same, crossed-change, crossed-rest}
+use Rattle.crossing.proofs.Levels.{Change, change-at, Crossed, crossed-none, crossed-small, crossed-change, crossed-rest}
 use Rattle.crossing.proofs.by_change.Statement.{statement}
 use Rattle.crossing.proofs.by_change.Tie as tie
 

@@ -7,7 +7,6 @@ use Rattle.batch.proofs.Loops.{Tallied, tallied-none, tallied-small}
 use Rattle.packed.specs.Words.{lostAt}
 use Rattle.refusal.proofs.Tests.{and-left}
 use Rattle.packed_loss.proofs.Settling.{tallied-settled, true-false, walked, not-stopped}
-use borrow.Author.Needs.{needs}
 use Rattle.packed_loss.proofs.go_on.Statement.{statement}
 use Rattle.packed_loss.proofs.go_on.Tie as tie
 

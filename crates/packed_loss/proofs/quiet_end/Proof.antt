@@ -1,5 +1,5 @@
 -- `packed_loss::quiet_end` meets its contract. Assumes nothing.
-use Prim.Native.Nat.{ℕ, _/_}
+use Prim.Native.Nat.{_/_}
 use native.Mathlib.Omega.{arith}
 use Rattle.packed.specs.Words.{wordBits}
 use Rattle.packed_loss.specs.Steps.{Quiet}

@@ -3,7 +3,6 @@ use Prim.Native.Nat.{_-_}
 use native.Mathlib.Omega.{arith}
 use Rattle.packed_loss.specs.Steps.{group, Quiet}
 use Rattle.packed_loss.proofs.Settling.{quiet-none, quiet-more}
-use borrow.Author.Needs.{needs}
 use Rattle.packed_loss.proofs.quiet_groups.Statement.{statement}
 use Rattle.packed_loss.proofs.quiet_groups.Tie as tie
 

@@ -1,10 +1,8 @@
 -- `packed_loss::settle_word` meets its contract. Assumes nothing.
 use Prim.Native.Nat.{_+_, _-_, _≤_}
 use native.Mathlib.Omega.{arith}
-use Rattle.trace.specs.Sum.{count}
 use Rattle.trace.proofs.Sums.{count-most}
 use Rattle.packed.specs.Words.{wordBits, oneAt, lostAt}
-use Rattle.batch.specs.Batches.{lossesIn}
 use Rattle.packed_loss.specs.Steps.{Settled}
 use Rattle.packed_loss.proofs.Settling.{settled-word}
 use borrow.Author.Needs.{needs}

@@ -1,6 +1,6 @@
 -- `packed_plan::clear` meets its contract. Assumes nothing.
 use Prim.Native.Nat.{_+_, _-_, _≤_}
-use mathlib.Core.Path.{_≡_, refl, sym, ap, _∙_}
+use mathlib.Core.Path.{_≡_, ap, _∙_}
 use mathlib.Core.List.{List}
 use native.Mathlib.Omega.{arith}
 use Prim.Native.Nat.{ℕ}
@@ -8,7 +8,6 @@ use lib.ListN.{length, set}
 use Rattle.packed.specs.Words.{wordBits}
 use Rattle.packed_plan.specs.Steps.{cleared}
 use Rattle.packed_plan.proofs.Strides.{length-cleared, cleared-none, cleared-next}
-use borrow.Author.Needs.{needs}
 use Rattle.packed_plan.proofs.clear.Statement.{statement}
 use Rattle.packed_plan.proofs.clear.Tie as tie
 

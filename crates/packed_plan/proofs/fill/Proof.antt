@@ -1,7 +1,6 @@
 -- `packed_plan::fill` meets its contract. The loop's invariant is `Filling`. Assumes nothing.
 use Prim.Native.Nat.{_+_, _-_}
 use native.Mathlib.Omega.{arith}
-use borrow.Author.Needs.{needs}
 use Rattle.resend.specs.Steps.{Filling}
 use Rattle.resend.proofs.Filling.{filling-none, filling-length, filling-small, filling-all}
 use Rattle.packed.specs.Words.{wordBits, lostAt}

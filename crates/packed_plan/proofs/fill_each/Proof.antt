@@ -1,7 +1,7 @@
 -- `packed_plan::fill_each` meets its contract. The loop's invariant is `Filling`.
 -- Assumes nothing.
 use Prim.Native.Nat.{ℕ, _+_, _-_, _/_, _%_, _^_, _<_, _≤_}
-use mathlib.Core.Path.{_≡_, refl, sym, ap, _∙_}
+use mathlib.Core.Path.{_≡_, ap, _∙_}
 use native.Mathlib.Omega.{arith}
 use native.Mathlib.Nat.{add-zero, add-assoc, div-one}
 use borrow.Author.Needs.{needs}

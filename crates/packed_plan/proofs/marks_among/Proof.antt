@@ -1,13 +1,12 @@
 -- `packed_plan::marks_among` meets its contract. Assumes nothing.
 use Prim.Native.Nat.{_+_, _-_, _≤_}
-use mathlib.Core.Path.{_≡_, refl, sym, ap, _∙_}
+use mathlib.Core.Path.{_≡_, sym, ap, _∙_}
 use native.Mathlib.Omega.{arith}
 use lib.ListN.{getD}
 use Rattle.trace.specs.Sum.{sum}
 use Rattle.packed.specs.Words.{wordBits}
 use Rattle.trace.proofs.Sums.{sum-none, sum-cut, sum-one}
 use Rattle.packed_plan.proofs.Strides.{sum-few}
-use borrow.Author.Needs.{needs}
 use Rattle.packed_plan.proofs.marks_among.Statement.{statement}
 use Rattle.packed_plan.proofs.marks_among.Tie as tie
 
