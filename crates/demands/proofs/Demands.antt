@@ -149,4 +149,6 @@ demand-3 s b t out asked =
     }
 
 pub demand-3-packed : Demand3-packed
-demand-3-packed s buffer b t out without enough asked = rw (same-figures s buffer b t out without enough .bytes) (demand-3 s b t out asked)
+demand-3-packed s buffer b t out without enough asked =
+    let same = same-figures s buffer b t out without enough in
+    rw (same .plan, same .bytes) (demand-3 s b t out asked)

@@ -1,9 +1,12 @@
 -- The packed form and the byte form answer alike: specs/Packed.antt. Assumes nothing.
 use Prim.Native.Nat.{ℕ, _≤_}
-use mathlib.Core.Path.{_≡_, sym, ap, _∙_}
+use mathlib.Core.Path.{_≡_, sym, ap, ap₂, _∙_}
 use mathlib.Core.List.{List}
 use native.Mathlib.Omega.{arith}
+use native.Mathlib.Nat.{zero-add}
 use lib.ListN.{length, take}
+use Rattle.refusal.specs.Answer.{after}
+use Rattle.refusal.specs.declared.Written.{Written}
 use Rattle.refusal.specs.declared.Judged.{Judged}
 use Rattle.refusal.specs.declared.Judged.the-variants.{Accepted}
 use Rattle.trace.specs.declared.Event.the-variants.{Lost}
@@ -16,9 +19,11 @@ use Rattle.resend.specs.Answer.{planAnswer, bufferAfter}
 use Rattle.resend.proofs.Same.{same-plan}
 use Rattle.packed.specs.Words.{wordsFor, lostAt}
 use Rattle.packed.specs.Judging.{judgedPacked}
-use Rattle.packed.proofs.Laws.{accepted-packed, packed-accepted, first-past, needed-packets, needed-verdict}
+use Rattle.packed.proofs.Laws.{accepted-packed, packed-accepted, first-past, needed-exactly, needed-packets, needed-verdict}
+use Rattle.packed.proofs.Bytes.{bytes-same}
+use Rattle.packing.specs.Packing.{unpackAnswer}
 use Rattle.packing.specs.Laws.{packedInto}
-use Rattle.packing.proofs.BothWays.{packed-form, pack-unpack, unpack-pack}
+use Rattle.packing.proofs.BothWays.{packed-form, pack-unpack, unpack-pack, behind-kept}
 use Rattle.demands.specs.Packed.{SameFigures, NeededAlone, PackedKept}
 
 -- a trace without discards is an accepted trace
@@ -37,16 +42,23 @@ same-figures s buffer b t out w enough =
       bytes = ap (λ (v : Judged). bufferAfter v (lostAt words) (length s) b t out) verdict ∙ plans .1;
     }
 
+unpack-same : (few words : List ℕ) (packets : ℕ) (out : List ℕ) → judgedPacked few packets ≡ judgedPacked words packets → unpackAnswer few packets out ≡ unpackAnswer words packets out
+unfolding unpackAnswer
+unpack-same few words packets out verdict = rw verdict
+
 needed-alone : (words : List ℕ) (packets b t : ℕ) (out : List ℕ) → NeededAlone words packets b t out
 needed-alone words packets b t out =
     let few : List ℕ = take (wordsFor packets) words in
     let verdict = needed-verdict words packets in
     let same = needed-packets words packets in
     let plans = same-plan (judgedPacked words packets) (lostAt few) (lostAt words) packets b t out same in
+    let answer = unpack-same few words packets out verdict in
     record {
       loss = ap (λ (v : Judged). lossAnswer v (lostAt few) packets b t) verdict ∙ same-loss (judgedPacked words packets) (lostAt few) (lostAt words) packets b t same;
       plan = ap (λ (v : Judged). planAnswer v (lostAt few) packets b t out) verdict ∙ plans .0;
       bytes = ap (λ (v : Judged). bufferAfter v (lostAt few) packets b t out) verdict ∙ plans .1;
+      unpacked = answer;
+      trace = ap₂ (λ (w : Written) (l : List ℕ). after w l out) answer (bytes-same (lostAt few) (lostAt words) 0 0 packets (λ j h. rw (zero-add j) (same j h)));
     }
 
 pub packed-kept : PackedKept
@@ -59,7 +71,9 @@ packed-kept =
       packed-again = unpack-pack;
       first-past = first-past;
       same = same-figures;
+      needed-exactly = needed-exactly;
       needed-packets = needed-packets;
       needed-verdict = needed-verdict;
       needed = needed-alone;
+      behind-kept = behind-kept;
     }

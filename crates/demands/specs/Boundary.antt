@@ -43,7 +43,7 @@ abbrev pub noEvent : ℕ → Bool
 noEvent n = not (eqb n lost || eqb n discarded)
 
 pub record AtBoundary : Type 0 where
-  -- cards, packets, blocks of traces, effective loss and the plan: the answer of the library's call
+  -- cards, packets, blocks of traces, packed traces, effective loss and the plan: the answer of the library's call
   pub written : (a : Written) → writtenOut a .refusal ≡ shown (ofWritten a)
   pub card : (a : CardRead) → cardOut a .refusal ≡ shown (ofCard a)
   pub packet : (a : PacketHead) → packetOut a .refusal ≡ shown (ofHead a)

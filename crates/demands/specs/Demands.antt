@@ -9,6 +9,7 @@ use Rattle.trace.specs.declared.Event.the-variants.{Lost}
 use Rattle.trace.specs.Trace.{lost, traceMax, countedAt, judged}
 use Rattle.trace.specs.Laws.{IsWithin}
 use Rattle.batch.specs.Batches.{batches, lossesIn}
+use Rattle.resend.specs.declared.Planned.{Planned}
 use Rattle.resend.specs.declared.Planned.the-variants.{Marks}
 use Rattle.resend.specs.Plans.{IsPlan, marked, marks, Valid, DifferFirst, resent}
 use Rattle.resend.specs.Answer.{planAnswer, Plannable}
@@ -22,7 +23,7 @@ use Rattle.demands.specs.Packets.{PacketsRead, PacketsWritten, BlocksAga
 use Rattle.demands.specs.Formulas.{AsPublished, NeverUnavailable}
 use Rattle.demands.specs.Panels.{PanelsShown}
 use Rattle.demands.specs.Runs.{RunsKept}
-use Rattle.demands.specs.Packed.{packedPlanAfter, PackedKept}
+use Rattle.demands.specs.Packed.{packedPlan, packedPlanAfter, PackedKept}
 use Rattle.demands.specs.Cards.{CardsGuarded}
 
 -- 1.
@@ -57,15 +58,15 @@ pub record Demand2 : Type 0 where
   -- "An accepted card with one digit changed, or any two unequal digits exchanged, is refused."
   pub cards-guarded : CardsGuarded
 
--- 3. The plan p of a trace, in a lent buffer.
-pub record Plan (s : List ℕ) (b t : ℕ) (out p : List ℕ) : Type 0 where
+-- 3. The plan p of a trace, and what the call answered that left it in a lent buffer.
+pub record Plan (s : List ℕ) (b t : ℕ) (answer : Planned) (p : List ℕ) : Type 0 where
   pub is-plan : IsPlan (length s) p
   -- "the resend plan marks lost packets only;"
   pub lost-only : (i : ℕ) → i < length s → marked p i ≡ true → countedAt Lost s i ≡ true
   -- "with the marked ones counted as received no batch holds more losses than the threshold;"
   pub none-over : (k : ℕ) → k < batches (length s) b → lossesIn (countedAt Lost (resent s p)) b k ≤ t
   -- "the count it gives is the number of its marks;"
-  pub count : planAnswer (judged s) (countedAt Lost s) (length s) b t out ≡ Marks (marks p)
+  pub count : answer ≡ Marks (marks p)
   -- "every other plan that marks lost packets only and leaves no batch over has at least that many marks;"
   pub fewest : (q : List ℕ) → Valid (countedAt Lost s) (length s) b t q → marks p ≤ marks q
   -- "if one has exactly that many, then at the first packet where it differs from ours, it has a mark and ours has none."
@@ -74,9 +75,12 @@ pub record Plan (s : List ℕ) (b t : ℕ) (out p : List ℕ) : Type 0 where
 
 -- "For any accepted trace, any batch and threshold in range with the batch no longer than the trace, and room:"
 abbrev pub Demand3 : Type 0
-Demand3 = (s : List ℕ) (b t : ℕ) (out : List ℕ) → Plannable (judged s) (length s) b t out → Plan s b t out (planIn Lost s b t out)
+Demand3 = (s : List ℕ) (b t : ℕ) (out : List ℕ) → Plannable (judged s) (length s) b t out →
+    Plan s b t (planAnswer (judged s) (countedAt Lost s) (length s) b t out) (planIn Lost s b t out)
 
--- The same of its packed form: the plan of the words, once any buffer with room was packed into, is the plan of the trace.
+-- The same of its packed form: answer and bytes that the words give, once any buffer with room was packed into, are such a plan of the
+-- trace.
 abbrev pub Demand3-packed : Type 0
 Demand3-packed = (s buffer : List ℕ) (b t : ℕ) (out : List ℕ) → IsWithin traceMax lost s → wordsFor (length s) ≤ length buffer →
-    Plannable (judged s) (length s) b t out → Plan s b t out (take (length s) (packedPlanAfter (packedInto s buffer) (length s) b t out))
+    Plannable (judged s) (length s) b t out →
+    Plan s b t (packedPlan (packedInto s buffer) (length s) b t out) (take (length s) (packedPlanAfter (packedInto s buffer) (length s) b t out))

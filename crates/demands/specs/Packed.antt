@@ -12,8 +12,9 @@ use Rattle.resend.specs.declared.Planned.{Planned}
 use Rattle.resend.specs.Answer.{planAnswer, bufferAfter}
 use Rattle.packed.specs.Words.{wordsFor, lostAt}
 use Rattle.packed.specs.Judging.{judgedPacked}
-use Rattle.packed.specs.Laws.{Accepted-packed, Packed-accepted, First-past, Needed-packets, Needed-verdict}
-use Rattle.packing.specs.Laws.{packedInto, Packed-form, Pack-unpack, Unpack-pack}
+use Rattle.packed.specs.Laws.{Accepted-packed, Packed-accepted, First-past, Needed-exactly, Needed-packets, Needed-verdict}
+use Rattle.packing.specs.Packing.{unpackAnswer}
+use Rattle.packing.specs.Laws.{packedInto, unpackedInto, Packed-form, Pack-unpack, Unpack-pack, Behind-kept}
 
 -- effective loss and plan of so many packets in words
 abbrev pub packedLoss : List ℕ → ℕ → ℕ → ℕ → LossRead
@@ -32,12 +33,14 @@ pub record SameFigures (s words : List ℕ) (b t : ℕ) (out : List ℕ) : Type 
   pub plan : packedPlan words (length s) b t out ≡ planAnswer (judged s) (countedAt Lost s) (length s) b t out
   pub bytes : packedPlanAfter words (length s) b t out ≡ bufferAfter (judged s) (countedAt Lost s) (length s) b t out
 
--- "Words past the last needed one are neither read nor changed.": answers are those of the needed words alone; what is written into a
--- lent list leaves them as they were by the promises.
+-- "Words past the last needed one are neither read nor changed.": answers and bytes are those of the needed words alone; that packing
+-- leaves the words behind as they were is `Behind-kept`.
 pub record NeededAlone (words : List ℕ) (packets b t : ℕ) (out : List ℕ) : Type 0 where
   pub loss : packedLoss (take (wordsFor packets) words) packets b t ≡ packedLoss words packets b t
   pub plan : packedPlan (take (wordsFor packets) words) packets b t out ≡ packedPlan words packets b t out
   pub bytes : packedPlanAfter (take (wordsFor packets) words) packets b t out ≡ packedPlanAfter words packets b t out
+  pub unpacked : unpackAnswer (take (wordsFor packets) words) packets out ≡ unpackAnswer words packets out
+  pub trace : unpackedInto (take (wordsFor packets) words) packets out ≡ unpackedInto words packets out
 
 pub record PackedKept : Type 0 where
   -- "64-bit words, packet i in word i / 64 at bit i modulo 64, one meaning lost, bits past the end zero"
@@ -51,6 +54,8 @@ pub record PackedKept : Type 0 where
   pub first-past : First-past
   pub same : (s buffer : List ℕ) (b t : ℕ) (out : List ℕ) → IsWithin traceMax lost s → wordsFor (length s) ≤ length buffer →
       SameFigures s (packedInto s buffer) b t out
+  pub needed-exactly : Needed-exactly
   pub needed-packets : Needed-packets
   pub needed-verdict : Needed-verdict
   pub needed : (words : List ℕ) (packets b t : ℕ) (out : List ℕ) → NeededAlone words packets b t out
+  pub behind-kept : Behind-kept

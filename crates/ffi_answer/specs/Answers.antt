@@ -6,7 +6,7 @@ use Rattle.refusal.specs.declared.Written.{Written}
 use Rattle.refusal.specs.declared.Written.the-variants.{Size, Refused}
 use Rattle.ffi_answer.specs.declared.WrittenSize.{WrittenSize}
 
--- 0.5.0: major × 10,000 + minor × 100 + patch
+-- 0.6.0: major × 10,000 + minor × 100 + patch
 abbrev pub version : ℕ
 version = 600
 

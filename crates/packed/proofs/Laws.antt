@@ -17,7 +17,7 @@ use Rattle.trace.specs.Trace.{received, traceMax, packetsWithin}
 use Rattle.trace.proofs.Judging.{in-range, ranged, first-above}
 use Rattle.packed.specs.Words.{wordBits, lostAt, wordsFor, numberOf}
 use Rattle.packed.specs.Judging.{pastEnd, firstPast, judgedPacked}
-use Rattle.packed.specs.Laws.{Accepted-packed, Packed-accepted, First-past, Needed-packets, Needed-verdict}
+use Rattle.packed.specs.Laws.{Accepted-packed, Packed-accepted, First-past, Needed-exactly, Needed-packets, Needed-verdict}
 use Rattle.packed.proofs.Numbers.{number-zero, number-at}
 use Rattle.packed.proofs.Windows.{lost-needed}
 use Rattle.packed.proofs.Bytes.{getD-bytes, bytes-same, first-lost}
@@ -112,3 +112,6 @@ needed-verdict words packets =
     same-leb (wordsFor packets) (length (take (wordsFor packets) words)) (wordsFor packets) (length words) (λ h. omega arith) (λ h. omega arith)
     in
     rw (enough, past-needed words packets)
+
+pub needed-exactly : Needed-exactly
+needed-exactly packets k = (λ h. omega arith, λ h. omega arith)

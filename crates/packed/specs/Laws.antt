@@ -35,6 +35,10 @@ First-past =
     (words : List ℕ) (packets : ℕ) → firstPast words packets < length (pastEnd words packets) →
     FirstPastAt words packets (packets + firstPast words packets)
 
+-- A word is needed exactly where a packet stands in it.
+abbrev pub Needed-exactly : Type 0
+Needed-exactly = (packets k : ℕ) → (k < wordsFor packets → wordBits * k < packets) × (wordBits * k < packets → k < wordsFor packets)
+
 -- "Words past the last needed one are neither read": packets and verdict are those of the needed words alone.
 abbrev pub Needed-packets : Type 0
 Needed-packets = (words : List ℕ) (packets i : ℕ) → i < packets → lostAt (take (wordsFor packets) words) i ≡ lostAt words i

@@ -1,8 +1,8 @@
 // A packed trace: document 02, ticket 6. 64-bit words, packet i in word i / 64 at bit i modulo 64, a one meaning lost.
 //
-//     word 0                          word 1
-//     bit 63 ..                0      bit 63 ..                0
-//     packet 63 ..  packet 1, packet 0   packet 127 ..    packet 64
+//     word 0                               word 1
+//     bit 63 ..           bit 1   bit 0    bit 63 ..            bit 0
+//     packet 63 ..   packet 1   packet 0    packet 127 ..   packet 64
 //
 // The bits of the last needed word that are past the end are zero. Words behind it are neither read nor changed.
 use refusal::Judged;

@@ -1,5 +1,5 @@
 // The resend plan of a packed trace: document 02, ticket 6. It is the plan of the byte form, still written a byte a packet. A word
-// whose losses all stay without a mark is written in one step, any other packet by packet.
+// that could not take the count over the threshold even if nothing left is written in one step, any other packet by packet.
 use packed::WORD;
 use refusal::Judged;
 use resend::Planned;
@@ -123,7 +123,7 @@ fn fill_each(
 }
 
 // The running count without the packet that stands `batch` before packet i; `gone` says whether one does that is lost. Its mark is read
-// only then: with a small batch it has just been written.
+// only then: with a small batch it has just been written, and reading it at every packet would make each wait for the one before.
 fn slide(w: &[u64], plan: &[u8], batch: usize, i: usize, left: usize, gone: u64) -> usize
     requires { ⌜ (1 ≤ batch) × (i < length (now plan)) × (gone ≡ bit (behind (lostAt (now w)) batch i)) × (leaving (lostAt (now w)) batch (now plan) i ≤ left) × (batch ≤ i → getD (now plan) (i - batch) 0 ≤ bit (lostAt (now w) (i - batch))) ⌝ }
     ensures { λ r. ⌜ r ≡ left - leaving (lostAt (now (w .entry))) batch (now (plan .entry)) i ⌝ }

@@ -6,12 +6,17 @@ use mathlib.Core.List.{List, [], _∷_, _++_}
 use native.Mathlib.Omega.{arith}
 use native.Mathlib.Nat.{add-zero, zero-add, suc-add, div-one, mod-eq-of-lt}
 use native.Mathlib.Decide.{decLt}
-use lib.Dec.{eqb}
+use lib.Dec.{eqb, leb}
 use lib.ListN.{length, getD, take, drop, length-append, List·getD-append}
-use lib.Seq.{take-suc, take-at, getD-at}
-use Rattle.refusal.specs.declared.Written.the-variants.{Size}
+use lib.Seq.{take-suc, take-at, getD-at, drop-at}
+use Rattle.refusal.specs.Answer.{unless, ifAccepted, after}
+use Rattle.refusal.specs.Table.{bufferShort}
+use Rattle.refusal.specs.declared.Judged.{Judged}
+use Rattle.refusal.specs.declared.Judged.the-variants.{Accepted, Refused as Judged·Refused}
+use Rattle.refusal.specs.declared.Written.{Written}
+use Rattle.refusal.specs.declared.Written.the-variants.{Size, Refused}
 use Rattle.trace.specs.Sum.{bit}
-use Rattle.trace.specs.Trace.{lost, traceMax, countedAt, countsAs}
+use Rattle.trace.specs.Trace.{lost, traceMax, countedAt, countsAs, judgedWithin}
 use Rattle.trace.specs.Laws.{IsWithin}
 use Rattle.trace.specs.declared.Event.the-variants.{Lost}
 use Rattle.trace.proofs.Sums.{bit-le}
@@ -21,8 +26,8 @@ use Rattle.packed.proofs.Numbers.{number-at, number-same}
 use Rattle.packed.proofs.Windows.{lost-word, part-word}
 use Rattle.packed.proofs.Bytes.{length-bytes, getD-bytes, bytes-same}
 use Rattle.packed.proofs.Laws.{packed-accepted}
-use Rattle.packing.specs.Packing.{wordsUpTo, wordsOf}
-use Rattle.packing.specs.Laws.{packedInto, unpackedInto, Packed-form, Pack-unpack, Unpack-pack}
+use Rattle.packing.specs.Packing.{wordsUpTo, wordsOf, packAnswer}
+use Rattle.packing.specs.Laws.{packedInto, unpackedInto, Packed-form, Pack-unpack, Unpack-pack, Behind-kept}
 use Rattle.packing.specs.Steps.{Bits}
 use Rattle.packing.proofs.Octets.{packet-bit}
 use Rattle.packing.proofs.Words.{length-words, none-past}
@@ -136,3 +141,20 @@ unpack-pack words room buffer packets word-fits p fits enough =
       sym (packed .0) ∙ ap (λ (k : ℕ). Size (wordsFor k)) long,
       sym (packed .1) ∙ ap (λ (k : ℕ). wordsOf (countedAt Lost bytes) k ++ drop (wordsFor k) buffer) long ∙ ap (λ (l : List ℕ). l ++ drop n buffer) all,
     )
+
+-- whatever the answer, what stands behind the words is as it was
+kept-behind : (answer : Written) (result buffer : List ℕ) (n : ℕ) → length result ≡ n → ((m : ℕ) → answer ≡ Size m → m ≡ n) → drop n (after answer result buffer) ≡ drop n buffer
+kept-behind (Size m) result buffer n long is = drop-at result (drop m buffer) n long ∙ ap (λ (k : ℕ). drop k buffer) (is m refl)
+kept-behind (Refused r) result buffer n long is = refl
+
+size-is : (j : Judged) (t : Bool) (n m : ℕ) → ifAccepted j Refused (unless t (Refused bufferShort) (Size n)) ≡ Size m → m ≡ n
+size-is Accepted true n m h = cc
+size-is Accepted false n m h = let z : _≡_ {A = ℕ} 0 1 = cc in absurd (omega arith)
+size-is (Judged·Refused r) t n m h = let z : _≡_ {A = ℕ} 0 1 = cc in absurd (omega arith)
+
+pub behind-kept : Behind-kept
+unfolding packAnswer
+behind-kept s buffer =
+    let n : ℕ = wordsFor (length s) in
+    kept-behind (packAnswer s buffer) (wordsOf (countedAt Lost s) (length s)) buffer n (length-words (countedAt Lost s) n)
+    (λ m h. size-is (judgedWithin traceMax lost s) (leb n (length buffer)) n m h)

@@ -37,6 +37,11 @@ Pack-unpack =
     (unpackAnswer (packedInto s buffer) (length s) room ≡ Size (length s)) ×
     (unpackedInto (packedInto s buffer) (length s) room ≡ s ++ drop (length s) room)
 
+-- "Words past the last needed one are neither read nor changed.": those behind a packed trace are as they were, and so are all where the
+-- call refused.
+abbrev pub Behind-kept : Type 0
+Behind-kept = (s buffer : List ℕ) → drop (wordsFor (length s)) (packedInto s buffer) ≡ drop (wordsFor (length s)) buffer
+
 -- Packing what was unpacked gives the needed words; words of 64 bits.
 abbrev pub Unpack-pack : Type 0
 Unpack-pack =

@@ -193,8 +193,8 @@ const SEVEN_COPIES: u64 = 0x0002_0408_1020_4081;
 const ONES: u64 = 0x0101_0101_0101_0101;
 
 // Eight bits as eight bytes of 0 or 1 in one number, the lowest in its lowest byte. Copies of seven bits, seven places apart, do
-// not meet, and bring bit j to the lowest place of byte j; the eighth bit is put beside them. So the zeros are spread and taken
-// from all ones: of a sum the compiler would know each byte by itself, and put byte by byte.
+// not meet, and bring bit j to the lowest place of byte j; the eighth bit is put beside them. The zeros are spread and taken
+// from all ones, since the compiler takes a plain sum apart and stores byte by byte.
 fn spread(bits: u64) -> u64
     requires { ⌜ bits < 256 ⌝ }
     ensures { λ r. ⌜ r ≡ spread 8 bits ⌝ }
