@@ -23,7 +23,7 @@ pub const PACKED: Opt = Opt {
 };
 
 /// The bytes of a word.
-const WORD: usize = 8;
+const WORD_BYTES: usize = 8;
 /// The most words of a packed file. One more is read, enough to tell that there are more.
 const MOST_WORDS: usize = MOST / 64;
 
@@ -36,10 +36,10 @@ pub struct Packed {
 
 /// The packed file with this name.
 pub fn read(name: &OsStr, packets: usize) -> Result<Packed, Failure> {
-    let most = MOST_WORDS.saturating_add(1).saturating_mul(WORD);
+    let most = MOST_WORDS.saturating_add(1).saturating_mul(WORD_BYTES);
     let bytes = input::front(name, input::open(name)?, most)?;
     let head = Head::new(name, "packed", packets);
-    let words = bytes.chunks_exact(WORD);
+    let words = bytes.chunks_exact(WORD_BYTES);
     if !words.remainder().is_empty() {
         let (name, size) = (&head.name, bytes.len());
         let wrong = "it was cut off, or is no packed file: that has 8 bytes for each 64 packets";

@@ -300,6 +300,12 @@ fn parts_of_buffers() {
             let mut expected = pattern(start + length + 9);
             expected[start..start + length].copy_from_slice(&trace);
             assert_eq!(out, expected);
+            // With T 0 every lost packet has a mark, so that the plan is the trace.
+            let mut plan = pattern(start + length + 9);
+            let marks = trace.iter().filter(|packet| **packet == 1).count();
+            let answer = nuvaskoe::packed::plan(&words[start..], length, 1, 0, &mut plan[start..]);
+            assert_eq!(answer, Ok(marks));
+            assert_eq!(plan, expected);
         }
     }
 }

@@ -19,7 +19,7 @@ pub struct Packed {
 }
 
 impl Packed {
-    /// "Packet i in word i / 64 at bit i modulo 64, one meaning lost", packet by packet.
+    /// The words: "packet i in word i / 64 at bit i modulo 64, one meaning lost", packet by packet.
     pub fn of(trace: &[u8]) -> Packed {
         let mut words = vec![0; trace.len().div_ceil(WORD)];
         for (place, packet) in trace.iter().enumerate() {
