@@ -7,7 +7,7 @@ use Rattle.block.specs.Reading.{rateGood, flagGood, summaryRead, readMeasuremen
 use Rattle.frame.specs.Frames.{entryAt, framesFrom}
 use Rattle.frame.specs.Packet.{headerOf, packetIn, numbered}
 use Rattle.packet.specs.Blocks.{readAlone, measured}
-use Rattle.trace.specs.Trace.{countsAs, lengthWithin, firstAbove, judgedWithin}
+use Rattle.trace.specs.Trace.{countsAs, packetsWithin, firstAbove, judgedWithin}
 use Rattle.trace.specs.Sum.{sum, bit}
 use Rattle.bursts.specs.Groups.{eventsFrom, firstOf, lastOf, meet, join, groups, burstsOf, duration, total}
 use Rattle.bursts.specs.Sums.{sumsOver}
@@ -23,5 +23,5 @@ use Rattle.card.specs.Card.{field, settingsOn, twentyDigits, checkRight, readCa
 use Rattle.sheet.specs.Sheet.{Sheet-right}
 
 pub sheet-right : Sheet-right
-unfolding burstInRange batchInRange inRange be16 be32 u16At measurementIn lossIn discardIn effectiveIn streamsIn rateGood flagGood summaryRead readMeasurement readLoss readDiscard readEffective readStreams readBlock entryAt framesFrom headerOf packetIn numbered readAlone measured countsAs lengthWithin firstAbove judgedWithin sum bit eventsFrom firstOf lastOf meet join groups burstsOf duration total sumsOver rateOf ranged meanOf varianceOf figuresOf figuresIn overCount firstFrom firstOver judgedFor lossOf lossAnswer recent planOf planAnswer bufferAfter allDigits decimal digits field settingsOn twentyDigits checkRight readCard checkOf
+unfolding burstInRange batchInRange inRange be16 be32 u16At measurementIn lossIn discardIn effectiveIn streamsIn rateGood flagGood summaryRead readMeasurement readLoss readDiscard readEffective readStreams readBlock entryAt framesFrom headerOf packetIn numbered readAlone measured countsAs packetsWithin firstAbove judgedWithin sum bit eventsFrom firstOf lastOf meet join groups burstsOf duration total sumsOver rateOf ranged meanOf varianceOf figuresOf figuresIn overCount firstFrom firstOver judgedFor lossOf lossAnswer recent planOf planAnswer bufferAfter allDigits decimal digits field settingsOn twentyDigits checkRight readCard checkOf
 sheet-right = refl
