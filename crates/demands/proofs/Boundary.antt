@@ -36,8 +36,9 @@ use Rattle.resend.specs.declared.Planned.the-variants.{Marks, Refused as Planne
 use Rattle.ffi_answer.specs.Answers.{writtenOut}
 use Rattle.ffi_card.specs.Answers.{cardOut}
 use Rattle.ffi_packet.specs.Answers.{packetOut, blockOut, comparedOut}
-use Rattle.ffi_figures.specs.declared.EventRead.the-variants.{Known, Unknown}
-use Rattle.ffi_figures.specs.Answers.{eventIn, figuresOut, figuresBy}
+use Rattle.trace.specs.declared.EventRead.the-variants.{Known, Unknown}
+use Rattle.trace.specs.Events.{eventIn}
+use Rattle.ffi_figures.specs.Answers.{figuresOut, figuresBy}
 use Rattle.ffi_tally.specs.declared.TallyNumbers.{TallyNumbers}
 use Rattle.ffi_tally.specs.Answers.{tallyWith, tallyIn, openedOut, answerOut}
 use Rattle.ffi_tally.specs.Calls.{openBy, takeBy, closeBy}

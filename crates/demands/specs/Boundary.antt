@@ -26,7 +26,8 @@ use Rattle.resend.specs.declared.Planned.{Planned}
 use Rattle.ffi_answer.specs.Answers.{none, writtenOut}
 use Rattle.ffi_card.specs.Answers.{cardOut}
 use Rattle.ffi_packet.specs.Answers.{packetOut, blockOut, comparedOut}
-use Rattle.ffi_figures.specs.Answers.{eventIn, figuresBy}
+use Rattle.trace.specs.Events.{eventIn}
+use Rattle.ffi_figures.specs.Answers.{figuresBy}
 use Rattle.ffi_tally.specs.declared.TallyNumbers.{TallyNumbers}
 use Rattle.ffi_tally.specs.Answers.{tallyIn, tallyOut}
 use Rattle.ffi_tally.specs.Calls.{openBy, takeBy, closeBy}

@@ -7,16 +7,11 @@ use bursts::Figures;
 use bursts::FiguresRead;
 use ffi_answer::NONE;
 use refusal::Refusal;
-use trace::Event;
+use trace::EventRead;
 ghost use mathlib.Core.Path.{_≡_};
+ghost use Rattle.trace.specs.Events.{eventIn};
 ghost use Rattle.figures.specs.Figures.{lossBlock, discardBlock};
-ghost use Rattle.ffi_figures.specs.Answers.{eventIn, figuresOut, figuresBy};
-
-// An event by its number.
-pub enum EventRead {
-    Known(Event),
-    Unknown,
-}
+ghost use Rattle.ffi_figures.specs.Answers.{figuresOut, figuresBy};
 
 // The answer of a call that measures.
 // C: nuvaskoe_figured
@@ -33,17 +28,6 @@ pub const NO_FIGURES: Figures = Figures {
     burst_mean: UNAVAILABLE,
     burst_variance: UNAVAILABLE,
 };
-
-// The event with this number.
-pub fn event_in(number: u32) -> EventRead
-    ensures { λ r. ⌜ r ≡ eventIn number ⌝ }
-{
-    match number {
-        1 => EventRead::Known(Event::Lost),
-        2 => EventRead::Known(Event::Discarded),
-        _ => EventRead::Unknown,
-    }
-}
 
 pub fn figures_out(m: FiguresRead) -> Figured
     ensures { λ r. ⌜ r ≡ figuresOut m ⌝ }
@@ -66,7 +50,7 @@ pub fn figures_out(m: FiguresRead) -> Figured
 pub extern "C" fn nuvaskoe_figures(trace: &[u8], gmin: u32, spacing: u32, event: u32) -> Figured
     ensures { λ r. ⌜ r ≡ figuresBy gmin spacing (now (trace .entry)) (eventIn event) ⌝ }
 {
-    match event_in(event) {
+    match trace::event_in(event) {
         EventRead::Known(kind) => figures_out(figures::of_trace(trace, gmin, spacing, kind)),
         EventRead::Unknown => Figured {
             refusal: refusal::SETTING,

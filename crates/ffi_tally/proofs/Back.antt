@@ -2,8 +2,8 @@
 use mathlib.Core.Path.{_≡_, refl, ap}
 use Rattle.trace.specs.declared.Event.{Event}
 use Rattle.trace.specs.declared.Event.the-variants.{Lost, Discarded}
-use Rattle.ffi_figures.specs.declared.EventRead.the-variants.{Known}
-use Rattle.ffi_figures.specs.Answers.{eventIn, eventNumber}
+use Rattle.trace.specs.declared.EventRead.the-variants.{Known}
+use Rattle.trace.specs.Events.{eventIn, eventNumber}
 use Rattle.ffi_tally.specs.Answers.{tallyOut, tallyWith}
 use Rattle.ffi_tally.specs.Laws.{Tally-back}
 

@@ -17,11 +17,12 @@ use Rattle.tally.specs.declared.Opened.the-variants.{Accepted as Opened·Accept
 use Rattle.tally.specs.Tally.{fresh, openOf, takeOne, closeOf, takeAll}
 use Rattle.tally.proofs.Reached.{closes-with-figures}
 use Rattle.figures.specs.Figures.{figuresIn}
-use Rattle.ffi_figures.specs.declared.EventRead.{EventRead}
-use Rattle.ffi_figures.specs.declared.EventRead.the-variants.{Known, Unknown}
+use Rattle.trace.specs.declared.EventRead.{EventRead}
+use Rattle.trace.specs.declared.EventRead.the-variants.{Known, Unknown}
 use Rattle.ffi_tally.specs.declared.TallyRead.{TallyRead}
 use Rattle.ffi_answer.specs.Answers.{none}
-use Rattle.ffi_figures.specs.Answers.{eventIn, figuresOut, figuresBy}
+use Rattle.trace.specs.Events.{eventIn}
+use Rattle.ffi_figures.specs.Answers.{figuresOut, figuresBy}
 use Rattle.ffi_tally.specs.Answers.{tallyIn, tallyOut, openedOut}
 use Rattle.ffi_tally.proofs.Back.{tally-back}
 use Rattle.ffi_tally.specs.Calls.{openBy, takeBy, closeBy}

@@ -8,9 +8,9 @@ use Rattle.tally.specs.declared.Answer.{Answer}
 use Rattle.tally.specs.declared.Answer.the-variants.{Accepted as Answer·Accepted, Refused as Answer·Refused}
 use Rattle.tally.specs.declared.Taken.{Taken}
 use Rattle.ffi_answer.specs.Answers.{none}
-use Rattle.ffi_figures.specs.declared.EventRead.{EventRead}
-use Rattle.ffi_figures.specs.declared.EventRead.the-variants.{Known, Unknown}
-use Rattle.ffi_figures.specs.Answers.{eventIn, eventNumber}
+use Rattle.trace.specs.declared.EventRead.{EventRead}
+use Rattle.trace.specs.declared.EventRead.the-variants.{Known, Unknown}
+use Rattle.trace.specs.Events.{eventIn, eventNumber}
 use Rattle.ffi_tally.specs.declared.TallyNumbers.{TallyNumbers}
 use Rattle.ffi_tally.specs.declared.TallyRead.{TallyRead}
 use Rattle.ffi_tally.specs.declared.TallyRead.the-variants.{Known as Tally·Known, Unknown as Tally·Unknown}

@@ -3,8 +3,8 @@
 use Prim.Native.Nat.{ℕ}
 use Rattle.refusal.specs.Table.{setting}
 use Rattle.tally.specs.Tally.{openOf, takeOne, closeOf}
-use Rattle.ffi_figures.specs.declared.EventRead.{EventRead}
-use Rattle.ffi_figures.specs.declared.EventRead.the-variants.{Known, Unknown}
+use Rattle.trace.specs.declared.EventRead.{EventRead}
+use Rattle.trace.specs.declared.EventRead.the-variants.{Known, Unknown}
 use Rattle.ffi_figures.specs.declared.Figured.{Figured}
 use Rattle.ffi_figures.specs.Answers.{noFigures, figuresOut}
 use Rattle.ffi_tally.specs.declared.TallyNumbers.{TallyNumbers}

@@ -6,7 +6,8 @@ use Rattle.refusal.specs.declared.Judged.the-variants.{Accepted}
 use Rattle.trace.specs.Trace.{judged}
 use Rattle.tally.specs.declared.Tally.{Tally}
 use Rattle.ffi_answer.specs.Answers.{none}
-use Rattle.ffi_figures.specs.Answers.{eventIn, figuresBy}
+use Rattle.trace.specs.Events.{eventIn}
+use Rattle.ffi_figures.specs.Answers.{figuresBy}
 use Rattle.ffi_tally.specs.declared.TallyNumbers.{TallyNumbers}
 use Rattle.ffi_tally.specs.declared.TallyRead.the-variants.{Known}
 use Rattle.ffi_tally.specs.Answers.{tallyIn, tallyOut}

@@ -1,7 +1,6 @@
 // The tally at the boundary to C: a struct of plain numbers, its event by number, passed by value and handed back.
 use bursts::Sums;
 use ffi_answer::NONE;
-use ffi_figures::EventRead;
 use ffi_figures::Figured;
 use refusal::Refusal;
 use tally::Answer;
@@ -9,9 +8,9 @@ use tally::Opened;
 use tally::Stretch;
 use tally::Taken;
 use tally::Tally;
-use trace::Event;
+use trace::EventRead;
 ghost use mathlib.Core.Path.{_≡_};
-ghost use Rattle.ffi_figures.specs.Answers.{eventIn, eventNumber};
+ghost use Rattle.trace.specs.Events.{eventIn};
 ghost use Rattle.ffi_tally.specs.Answers.{tallyIn, tallyOut, openedOut, takenOut};
 ghost use Rattle.ffi_tally.specs.Calls.{openBy, takeBy, closeBy};
 
@@ -62,22 +61,13 @@ pub const NO_TALLY: TallyNumbers = TallyNumbers {
     },
 };
 
-fn event_number(event: Event) -> u32
-    ensures { λ r. ⌜ r ≡ eventNumber event ⌝ }
-{
-    match event {
-        Event::Lost => 1,
-        Event::Discarded => 2,
-    }
-}
-
 // The tally with these numbers.
 pub fn tally_in(t: TallyNumbers) -> TallyRead
     ensures { λ r. ⌜ r ≡ tallyIn t ⌝ }
 {
     let sums = t.sums;
     let stretch = t.stretch;
-    match ffi_figures::event_in(t.event) {
+    match trace::event_in(t.event) {
         EventRead::Known(event) => TallyRead::Known(Tally {
             gmin: t.gmin,
             spacing: t.spacing,
@@ -98,7 +88,7 @@ fn tally_out(t: Tally) -> TallyNumbers
     TallyNumbers {
         gmin: t.gmin,
         spacing: t.spacing,
-        event: event_number(event),
+        event: trace::event_number(event),
         sums,
         stretch,
     }
@@ -138,7 +128,7 @@ pub fn taken_out(t: Taken) -> Tallied
 pub extern "C" fn nuvaskoe_tally_open(gmin: u32, spacing: u32, event: u32) -> Tallied
     ensures { λ r. ⌜ r ≡ openBy gmin spacing (eventIn event) ⌝ }
 {
-    match ffi_figures::event_in(event) {
+    match trace::event_in(event) {
         EventRead::Known(kind) => opened_out(tally::open(gmin, spacing, kind)),
         EventRead::Unknown => Tallied {
             refusal: refusal::SETTING,

@@ -1,3 +1,4 @@
 pub mod Trace
+pub mod Events
 pub mod Sum
 pub mod Laws

@@ -4,6 +4,7 @@ use refusal::Judged;
 ghost use mathlib.Core.Path.{_≡_};
 ghost use lib.Dec.{ltb};
 ghost use lib.ListN.{length};
+ghost use Rattle.trace.specs.Events.{eventIn, eventNumber};
 ghost use Rattle.trace.specs.Trace.{countsAs, packetsWithin, firstAbove, judgedWithin, judged};
 
 pub const LOST: u8 = 1;
@@ -22,6 +23,33 @@ pub const TRACE_MAX: usize = 65_536;
 pub enum Event {
     Lost,
     Discarded,
+}
+
+// An event by its number.
+pub enum EventRead {
+    Known(Event),
+    Unknown,
+}
+
+// The event with this number.
+pub fn event_in(number: u32) -> EventRead
+    ensures { λ r. ⌜ r ≡ eventIn number ⌝ }
+{
+    match number {
+        1 => EventRead::Known(Event::Lost),
+        2 => EventRead::Known(Event::Discarded),
+        _ => EventRead::Unknown,
+    }
+}
+
+// The number of an event.
+pub fn event_number(event: Event) -> u32
+    ensures { λ r. ⌜ r ≡ eventNumber event ⌝ }
+{
+    match event {
+        Event::Lost => 1,
+        Event::Discarded => 2,
+    }
 }
 
 // Whether a packet is one of the counted.

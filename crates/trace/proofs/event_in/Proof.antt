@@ -1,8 +1,8 @@
--- `ffi_figures::event_in` meets its contract: each arm is a case of the definition. Assumes nothing.
+-- `trace::event_in` meets its contract: each arm is a case of the definition. Assumes nothing.
 use borrow.Author.Tests.{ne-eqb}
-use Rattle.ffi_figures.specs.Answers.{eventIn}
-use Rattle.ffi_figures.proofs.event_in.Statement.{statement}
-use Rattle.ffi_figures.proofs.event_in.Tie as tie
+use Rattle.trace.specs.Events.{eventIn}
+use Rattle.trace.proofs.event_in.Statement.{statement}
+use Rattle.trace.proofs.event_in.Tie as tie
 
 returns : tie.Need-returns
 unfolding eventIn

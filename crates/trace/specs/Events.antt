@@ -1,0 +1,16 @@
+-- An event by a number, as the boundary knows it: that of the packets that it counts, 1 lost and 2 discarded.
+use Prim.Native.Nat.{ℕ}
+use mathlib.Core.Bool.{cond}
+use lib.Dec.{eqb}
+use Rattle.trace.specs.declared.Event.{Event}
+use Rattle.trace.specs.declared.Event.the-variants.{Lost, Discarded}
+use Rattle.trace.specs.declared.EventRead.{EventRead}
+use Rattle.trace.specs.declared.EventRead.the-variants.{Known, Unknown}
+use Rattle.trace.specs.Trace.{lost, discarded}
+
+abbrev pub eventNumber : Event → ℕ
+eventNumber Lost = lost
+eventNumber Discarded = discarded
+
+unfoldable pub eventIn : ℕ → EventRead
+eventIn number = cond (eqb number lost) (Known Lost) (cond (eqb number discarded) (Known Discarded) Unknown)
