@@ -58,7 +58,7 @@ use Rattle.batch.specs.Judging.{judgedFor}
 use Rattle.batch.specs.Loss.{lossAnswer}
 use Rattle.resend.specs.declared.Planned.the-variants.{Refused as Planned·Refused}
 use Rattle.resend.specs.Answer.{planAnswer}
-use Rattle.packed.specs.Words.{wordsFor, lostAt}
+use Rattle.packed.specs.Words.{wordsFor, oneIn}
 use Rattle.packed.specs.Judging.{pastEnd, firstPast, judgedPacked}
 use Rattle.packing.specs.Packing.{packAnswer, unpackAnswer}
 use Rattle.demands.specs.Orders.{Row, when, judgedBy, headerRows, pastRows, framesAt, blocksIn, packetRows, roomRows, ownRows, traceRowsWithin, traceRows, isRle, figuresRows, packedRows, EachCall}
@@ -362,10 +362,10 @@ each-call =
       resend-plan = λ event s b t out. plan-rows (judged s) (traceRows s) (trace-rows s) (countedAt event s) (length s) b t out;
       trace-pack = trace-pack;
       packed = packed-rows;
-      packed-batch = λ words packets b t. batch-rows (judgedPacked words packets) (packedRows words packets) (packed-rows words packets) (lostAt words) packets b t;
+      packed-batch = λ words packets b t. batch-rows (judgedPacked words packets) (packedRows words packets) (packed-rows words packets) (oneIn words) packets b t;
       trace-unpack = trace-unpack;
-      packed-loss = λ words packets b t. loss-rows (judgedPacked words packets) (packedRows words packets) (packed-rows words packets) (lostAt words) packets b t;
-      packed-plan = λ words packets b t out. plan-rows (judgedPacked words packets) (packedRows words packets) (packed-rows words packets) (lostAt words) packets b t out;
+      packed-loss = λ words packets b t. loss-rows (judgedPacked words packets) (packedRows words packets) (packed-rows words packets) (oneIn words) packets b t;
+      packed-plan = λ words packets b t out. plan-rows (judgedPacked words packets) (packedRows words packets) (packed-rows words packets) (oneIn words) packets b t out;
       tally-of-trace = tally-of-trace;
       sums = sums;
       tally-open = tally-open;

@@ -17,7 +17,7 @@ use Rattle.batch.specs.Loss.{lossAnswer}
 use Rattle.batch.proofs.Same.{same-loss}
 use Rattle.resend.specs.Answer.{planAnswer, bufferAfter}
 use Rattle.resend.proofs.Same.{same-plan}
-use Rattle.packed.specs.Words.{wordsFor, lostAt}
+use Rattle.packed.specs.Words.{wordsFor, oneIn}
 use Rattle.packed.specs.Judging.{judgedPacked}
 use Rattle.packed.proofs.Laws.{accepted-packed, packed-accepted, first-past, needed-exactly, needed-packets, needed-verdict}
 use Rattle.packed.proofs.Bytes.{bytes-same}
@@ -35,11 +35,11 @@ same-figures s buffer b t out w enough =
     let words : List ℕ = packedInto s buffer in
     let form = packed-form s buffer w enough in
     let verdict : judgedPacked words (length s) ≡ judged s = packed-accepted words (length s) (form .packed) ∙ sym (accepted s w) in
-    let plans = same-plan (judged s) (lostAt words) (countedAt Lost s) (length s) b t out (form .same) in
+    let plans = same-plan (judged s) (oneIn words) (countedAt Lost s) (length s) b t out (form .same) in
     record {
-      loss = ap (λ (v : Judged). lossAnswer v (lostAt words) (length s) b t) verdict ∙ same-loss (judged s) (lostAt words) (countedAt Lost s) (length s) b t (form .same);
-      plan = ap (λ (v : Judged). planAnswer v (lostAt words) (length s) b t out) verdict ∙ plans .0;
-      bytes = ap (λ (v : Judged). bufferAfter v (lostAt words) (length s) b t out) verdict ∙ plans .1;
+      loss = ap (λ (v : Judged). lossAnswer v (oneIn words) (length s) b t) verdict ∙ same-loss (judged s) (oneIn words) (countedAt Lost s) (length s) b t (form .same);
+      plan = ap (λ (v : Judged). planAnswer v (oneIn words) (length s) b t out) verdict ∙ plans .0;
+      bytes = ap (λ (v : Judged). bufferAfter v (oneIn words) (length s) b t out) verdict ∙ plans .1;
     }
 
 unpack-same : (few words : List ℕ) (packets : ℕ) (out : List ℕ) → judgedPacked few packets ≡ judgedPacked words packets → unpackAnswer few packets out ≡ unpackAnswer words packets out
@@ -51,14 +51,14 @@ needed-alone words packets b t out =
     let few : List ℕ = take (wordsFor packets) words in
     let verdict = needed-verdict words packets in
     let same = needed-packets words packets in
-    let plans = same-plan (judgedPacked words packets) (lostAt few) (lostAt words) packets b t out same in
+    let plans = same-plan (judgedPacked words packets) (oneIn few) (oneIn words) packets b t out same in
     let answer = unpack-same few words packets out verdict in
     record {
-      loss = ap (λ (v : Judged). lossAnswer v (lostAt few) packets b t) verdict ∙ same-loss (judgedPacked words packets) (lostAt few) (lostAt words) packets b t same;
-      plan = ap (λ (v : Judged). planAnswer v (lostAt few) packets b t out) verdict ∙ plans .0;
-      bytes = ap (λ (v : Judged). bufferAfter v (lostAt few) packets b t out) verdict ∙ plans .1;
+      loss = ap (λ (v : Judged). lossAnswer v (oneIn few) packets b t) verdict ∙ same-loss (judgedPacked words packets) (oneIn few) (oneIn words) packets b t same;
+      plan = ap (λ (v : Judged). planAnswer v (oneIn few) packets b t out) verdict ∙ plans .0;
+      bytes = ap (λ (v : Judged). bufferAfter v (oneIn few) packets b t out) verdict ∙ plans .1;
       unpacked = answer;
-      trace = ap₂ (λ (w : Written) (l : List ℕ). after w l out) answer (bytes-same (lostAt few) (lostAt words) 0 0 packets (λ j h. rw (zero-add j) (same j h)));
+      trace = ap₂ (λ (w : Written) (l : List ℕ). after w l out) answer (bytes-same (oneIn few) (oneIn words) 0 0 packets (λ j h. rw (zero-add j) (same j h)));
     }
 
 pub packed-kept : PackedKept

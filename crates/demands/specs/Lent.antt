@@ -25,7 +25,7 @@ use Rattle.tally.specs.declared.Answer.the-variants.{Refused as Answer·Refused
 use Rattle.tally.specs.Tally.{takeOne}
 use Rattle.resend.specs.declared.Planned.the-variants.{Refused as Planned·Refused}
 use Rattle.resend.specs.Answer.{planAnswer, bufferAfter}
-use Rattle.packed.specs.Words.{lostAt}
+use Rattle.packed.specs.Words.{oneIn}
 use Rattle.packed.specs.Judging.{judgedPacked}
 use Rattle.packing.specs.Packing.{packAnswer, unpackAnswer}
 use Rattle.packing.specs.Laws.{packedInto, unpackedInto}
@@ -46,5 +46,5 @@ pub record Unchanged : Type 0 where
   pub trace-pack : (s out : List ℕ) (r : Refusal) → packAnswer s out ≡ Refused r → packedInto s out ≡ out
   pub trace-unpack : (words : List ℕ) (packets : ℕ) (out : List ℕ) (r : Refusal) → unpackAnswer words packets out ≡ Refused r → unpackedInto words packets out ≡ out
   pub packed-plan : (words : List ℕ) (packets b t : ℕ) (out : List ℕ) (r : Refusal) →
-      planAnswer (judgedPacked words packets) (lostAt words) packets b t out ≡ Planned·Refused r → bufferAfter (judgedPacked words packets) (lostAt words) packets b t out ≡ out
+      planAnswer (judgedPacked words packets) (oneIn words) packets b t out ≡ Planned·Refused r → bufferAfter (judgedPacked words packets) (oneIn words) packets b t out ≡ out
   pub tally-take : (t : Tally) (packet : ℕ) (r : Refusal) → takeOne t packet .answer ≡ Answer·Refused r → takeOne t packet .tally ≡ t

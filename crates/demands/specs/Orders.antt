@@ -36,7 +36,7 @@ use Rattle.tally.specs.Tally.{openOf, sound, takeOne, closeOf}
 use Rattle.figures.specs.Figures.{figuresIn, summaryOf}
 use Rattle.batch.specs.Loss.{lossAnswer}
 use Rattle.resend.specs.Answer.{planAnswer}
-use Rattle.packed.specs.Words.{wordsFor, lostAt}
+use Rattle.packed.specs.Words.{wordsFor, oneIn}
 use Rattle.packed.specs.Judging.{pastEnd, firstPast, judgedPacked}
 use Rattle.packing.specs.Packing.{packAnswer, unpackAnswer}
 use Rattle.frame.specs.Packet.{packetIn, locatedOf}
@@ -183,9 +183,9 @@ pub record EachCall : Type 0 where
   pub trace-unpack : (words : List ℕ) (packets : ℕ) (out : List ℕ) →
       ofWritten (unpackAnswer words packets out) ≡ judgedBy (packedRows words packets ++ when (ltb (length out) packets) bufferShort ∷ [])
   pub packed-loss : (words : List ℕ) (packets b t : ℕ) →
-      ofLoss (lossAnswer (judgedPacked words packets) (lostAt words) packets b t) ≡ judgedBy (packedBatchRows words packets b t)
+      ofLoss (lossAnswer (judgedPacked words packets) (oneIn words) packets b t) ≡ judgedBy (packedBatchRows words packets b t)
   pub packed-plan : (words : List ℕ) (packets b t : ℕ) (out : List ℕ) →
-      ofPlanned (planAnswer (judgedPacked words packets) (lostAt words) packets b t out) ≡ judgedBy (packedBatchRows words packets b t ++ when (ltb (length out) packets) bufferShort ∷ [])
+      ofPlanned (planAnswer (judgedPacked words packets) (oneIn words) packets b t out) ≡ judgedBy (packedBatchRows words packets b t ++ when (ltb (length out) packets) bufferShort ∷ [])
   -- "Tallies: 15, 10, 9"; sums by themselves as a tally's
   pub tally-of-trace : (gmin spacing : ℕ) (event : Event) (s : List ℕ) → ofOpened (ofTrace gmin spacing event s) ≡ judgedBy (figuresRows gmin spacing s)
   pub sums : (r : Sums) → ofFigures (measureOf r) ≡ judgedBy (when (not (sumsSound r)) setting ∷ [])

@@ -10,7 +10,7 @@ use Rattle.batch.specs.declared.LossRead.{LossRead}
 use Rattle.batch.specs.Loss.{lossAnswer}
 use Rattle.resend.specs.declared.Planned.{Planned}
 use Rattle.resend.specs.Answer.{planAnswer, bufferAfter}
-use Rattle.packed.specs.Words.{wordsFor, lostAt}
+use Rattle.packed.specs.Words.{wordsFor, oneIn}
 use Rattle.packed.specs.Judging.{judgedPacked}
 use Rattle.packed.specs.Laws.{Accepted-packed, Packed-accepted, First-past, Needed-exactly, Needed-packets, Needed-verdict}
 use Rattle.packing.specs.Packing.{unpackAnswer}
@@ -18,13 +18,13 @@ use Rattle.packing.specs.Laws.{packedInto, unpackedInto, Packed-form, Pack-unpa
 
 -- effective loss and plan of so many packets in words
 abbrev pub packedLoss : List ℕ → ℕ → ℕ → ℕ → LossRead
-packedLoss words packets b t = lossAnswer (judgedPacked words packets) (lostAt words) packets b t
+packedLoss words packets b t = lossAnswer (judgedPacked words packets) (oneIn words) packets b t
 
 abbrev pub packedPlan : List ℕ → ℕ → ℕ → ℕ → List ℕ → Planned
-packedPlan words packets b t out = planAnswer (judgedPacked words packets) (lostAt words) packets b t out
+packedPlan words packets b t out = planAnswer (judgedPacked words packets) (oneIn words) packets b t out
 
 abbrev pub packedPlanAfter : List ℕ → ℕ → ℕ → ℕ → List ℕ → List ℕ
-packedPlanAfter words packets b t out = bufferAfter (judgedPacked words packets) (lostAt words) packets b t out
+packedPlanAfter words packets b t out = bufferAfter (judgedPacked words packets) (oneIn words) packets b t out
 
 -- "Effective loss and the plan, still written a byte a packet, are the same from the packed form as from the byte form": of every
 -- trace without discards, packed into any buffer with room, and every batch and threshold.

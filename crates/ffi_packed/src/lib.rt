@@ -10,7 +10,7 @@ ghost use Rattle.trace.specs.Trace.{countedAt};
 ghost use Rattle.batch.specs.Loss.{lossAnswer};
 ghost use Rattle.resend.specs.Plans.{marks, Best};
 ghost use Rattle.resend.specs.Answer.{planAnswer, bufferAfter, Plannable};
-ghost use Rattle.packed.specs.Words.{lostAt, bytesOf};
+ghost use Rattle.packed.specs.Words.{oneIn, bytesOf};
 ghost use Rattle.packed.specs.Judging.{judgedPacked};
 ghost use Rattle.packing.specs.Packing.{wordsOf, packAnswer, unpackAnswer};
 ghost use Rattle.ffi_answer.specs.Answers.{writtenOut};
@@ -35,7 +35,7 @@ pub extern "C" fn nuvaskoe_trace_unpack(
     out: &mut [u8],
 ) -> WrittenSize
     ensures answer { λ r. ⌜ r ≡ writtenOut (unpackAnswer (now (words .entry)) packets (now (out .entry))) ⌝ }
-    ensures buffer { λ r. ⌜ now (out .exit) ≡ after (unpackAnswer (now (words .entry)) packets (now (out .entry))) (bytesOf (lostAt (now (words .entry))) 0 packets) (now (out .entry)) ⌝ }
+    ensures buffer { λ r. ⌜ now (out .exit) ≡ after (unpackAnswer (now (words .entry)) packets (now (out .entry))) (bytesOf (oneIn (now (words .entry))) 0 packets) (now (out .entry)) ⌝ }
 {
     ffi_answer::written_out(packing::unpack(words, packets, out))
 }
@@ -48,7 +48,7 @@ pub extern "C" fn nuvaskoe_packed_loss(
     batch: u32,
     threshold: u32,
 ) -> LossNumbers
-    ensures { λ r. ⌜ r ≡ lossOut (lossAnswer (judgedPacked (now (words .entry)) packets) (lostAt (now (words .entry))) packets batch threshold) ⌝ }
+    ensures { λ r. ⌜ r ≡ lossOut (lossAnswer (judgedPacked (now (words .entry)) packets) (oneIn (now (words .entry))) packets batch threshold) ⌝ }
 {
     ffi_batch::loss_out(packed_loss::effective_loss(words, packets, batch, threshold))
 }
@@ -63,9 +63,9 @@ pub extern "C" fn nuvaskoe_packed_plan(
     threshold: u32,
     out: &mut [u8],
 ) -> MarkCount
-    ensures answer { λ r. ⌜ r ≡ marksOut (planAnswer (judgedPacked (now (words .entry)) packets) (lostAt (now (words .entry))) packets batch threshold (now (out .entry))) ⌝ }
-    ensures buffer { λ r. ⌜ now (out .exit) ≡ bufferAfter (judgedPacked (now (words .entry)) packets) (lostAt (now (words .entry))) packets batch threshold (now (out .entry)) ⌝ }
-    ensures best { λ r. ⌜ (Plannable (judgedPacked (now (words .entry)) packets) packets batch threshold (now (out .entry)) → Best (lostAt (now (words .entry))) packets batch threshold (take packets (now (out .exit)))) ⌝ }
+    ensures answer { λ r. ⌜ r ≡ marksOut (planAnswer (judgedPacked (now (words .entry)) packets) (oneIn (now (words .entry))) packets batch threshold (now (out .entry))) ⌝ }
+    ensures buffer { λ r. ⌜ now (out .exit) ≡ bufferAfter (judgedPacked (now (words .entry)) packets) (oneIn (now (words .entry))) packets batch threshold (now (out .entry)) ⌝ }
+    ensures best { λ r. ⌜ (Plannable (judgedPacked (now (words .entry)) packets) packets batch threshold (now (out .entry)) → Best (oneIn (now (words .entry))) packets batch threshold (take packets (now (out .exit)))) ⌝ }
     ensures count { λ r. ⌜ (Plannable (judgedPacked (now (words .entry)) packets) packets batch threshold (now (out .entry)) → r .marks ≡ marks (take packets (now (out .exit)))) ⌝ }
 {
     ffi_batch::marks_out(packed_plan::plan(words, packets, batch, threshold, out))

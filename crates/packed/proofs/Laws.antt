@@ -15,11 +15,11 @@ use Rattle.refusal.proofs.Tests.{passed, same-leb}
 use Rattle.trace.specs.Sum.{bit}
 use Rattle.trace.specs.Trace.{received, traceMax, packetsWithin}
 use Rattle.trace.proofs.Judging.{in-range, ranged, first-above}
-use Rattle.packed.specs.Words.{wordBits, lostAt, wordsFor, numberOf}
+use Rattle.packed.specs.Words.{wordBits, oneIn, wordsFor, numberOf}
 use Rattle.packed.specs.Judging.{pastEnd, firstPast, judgedPacked}
 use Rattle.packed.specs.Laws.{Accepted-packed, Packed-accepted, First-past, Needed-exactly, Needed-packets, Needed-verdict}
 use Rattle.packed.proofs.Numbers.{number-zero, number-at}
-use Rattle.packed.proofs.Windows.{lost-needed}
+use Rattle.packed.proofs.Windows.{one-needed}
 use Rattle.packed.proofs.Bytes.{getD-bytes, bytes-same, first-lost}
 use Rattle.packed.proofs.Judging.{room, past-length, clean}
 
@@ -35,27 +35,27 @@ bit-some true h = refl
 bit-some false h = absurd (omega arith)
 
 -- the bits past the end, by place
-past-at : (words : List ℕ) (packets j : ℕ) → j < room words packets → getD (pastEnd words packets) j 0 ≡ bit (lostAt words (packets + j))
+past-at : (words : List ℕ) (packets j : ℕ) → j < room words packets → getD (pastEnd words packets) j 0 ≡ bit (oneIn words (packets + j))
 unfolding pastEnd
-past-at words packets j h = getD-bytes (lostAt words) packets (room words packets) j h
+past-at words packets j h = getD-bytes (oneIn words) packets (room words packets) j h
 
 -- no first one among them: their number is 0, and so is each
-none-past : (words : List ℕ) (packets : ℕ) → length (pastEnd words packets) ≤ firstPast words packets → numberOf (lostAt words) packets (room words packets) ≡ 0
+none-past : (words : List ℕ) (packets : ℕ) → length (pastEnd words packets) ≤ firstPast words packets → numberOf (oneIn words) packets (room words packets) ≡ 0
 unfolding pastEnd
-none-past words packets h = go (ℕ-discrete (numberOf (lostAt words) packets (room words packets)) 0)
+none-past words packets h = go (ℕ-discrete (numberOf (oneIn words) packets (room words packets)) 0)
   where
-    go : Dec (numberOf (lostAt words) packets (room words packets) ≡ 0) → numberOf (lostAt words) packets (room words packets) ≡ 0
+    go : Dec (numberOf (oneIn words) packets (room words packets) ≡ 0) → numberOf (oneIn words) packets (room words packets) ≡ 0
     go (yes none) = none
     go (no some) =
-        let within = first-lost (lostAt words) 64 (room words packets) packets (omega arith) some .within in
+        let within = first-lost (oneIn words) 64 (room words packets) packets (omega arith) some .within in
         absurd (omega (arith, past-length words packets))
 
-zero-past : (words : List ℕ) (packets : ℕ) → numberOf (lostAt words) packets (room words packets) ≡ 0 →
-    (i : ℕ) → packets ≤ i → i < wordBits * wordsFor packets → lostAt words i ≡ false
+zero-past : (words : List ℕ) (packets : ℕ) → numberOf (oneIn words) packets (room words packets) ≡ 0 →
+    (i : ℕ) → packets ≤ i → i < wordBits * wordsFor packets → oneIn words i ≡ false
 zero-past words packets none i past within =
     let here : packets + (i - packets) ≡ i = omega arith in
-    let digit = number-at (lostAt words) packets (room words packets) (i - packets) (omega arith) in
-    bit-zero (lostAt words i) (omega (arith, ap (λ (k : ℕ). bit (lostAt words k)) here, digit, ap (λ (x : ℕ). x / 2 ^ (i - packets)) none, zero-div (2 ^ (i - packets))))
+    let digit = number-at (oneIn words) packets (room words packets) (i - packets) (omega arith) in
+    bit-zero (oneIn words i) (omega (arith, ap (λ (k : ℕ). bit (oneIn words k)) here, digit, ap (λ (x : ℕ). x / 2 ^ (i - packets)) none, zero-div (2 ^ (i - packets))))
 
 -- what an accepted packed trace is
 pub accepted-packed : Accepted-packed
@@ -74,7 +74,7 @@ accepted-packed words packets h =
 
 pub packed-accepted : Packed-accepted
 packed-accepted words packets p =
-    let none = number-zero (lostAt words) packets (room words packets) (λ j h. p .zero (packets + j) (omega arith) (omega arith)) in
+    let none = number-zero (oneIn words) packets (room words packets) (λ j h. p .zero (packets + j) (omega arith) (omega arith)) in
     sym (clean words packets (in-range traceMax packets (p .some) (p .most)) (p .enough) none)
 
 -- the place of refusal 9
@@ -85,24 +85,24 @@ first-past words packets h =
     record {
       past = omega arith;
       within = omega arith;
-      one = bit-some (lostAt words (packets + firstPast words packets)) (rw (← past-at words packets (firstPast words packets) (omega arith)) (told .bad));
+      one = bit-some (oneIn words (packets + firstPast words packets)) (rw (← past-at words packets (firstPast words packets) (omega arith)) (told .bad));
       before =
           λ i past l.
           let here : packets + (i - packets) ≡ i = omega arith in
           let zero = told .before (i - packets) (omega arith) in
-          bit-zero (lostAt words i) (omega (arith, ap (λ (k : ℕ). bit (lostAt words k)) here, past-at words packets (i - packets) (omega arith)));
+          bit-zero (oneIn words i) (omega (arith, ap (λ (k : ℕ). bit (oneIn words k)) here, past-at words packets (i - packets) (omega arith)));
     }
 
 -- the needed words alone
 pub needed-packets : Needed-packets
-needed-packets = lost-needed
+needed-packets = one-needed
 
 past-needed : (words : List ℕ) (packets : ℕ) → pastEnd (take (wordsFor packets) words) packets ≡ pastEnd words packets
 unfolding pastEnd
 past-needed words packets =
     let all : wordsFor (wordBits * wordsFor packets) ≡ wordsFor packets = omega arith in
-    bytes-same (lostAt (take (wordsFor packets) words)) (lostAt words) packets packets (room words packets)
-    (λ j h. rw (← all) (lost-needed words (wordBits * wordsFor packets) (packets + j) (omega arith)))
+    bytes-same (oneIn (take (wordsFor packets) words)) (oneIn words) packets packets (room words packets)
+    (λ j h. rw (← all) (one-needed words (wordBits * wordsFor packets) (packets + j) (omega arith)))
 
 pub needed-verdict : Needed-verdict
 unfolding judgedPacked

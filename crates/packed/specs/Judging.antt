@@ -9,11 +9,11 @@ use Rattle.refusal.specs.Answer.{unless}
 use Rattle.refusal.specs.declared.Judged.{Judged}
 use Rattle.refusal.specs.declared.Judged.the-variants.{Accepted, Refused}
 use Rattle.trace.specs.Trace.{received, traceMax, packetsWithin, firstAbove}
-use Rattle.packed.specs.Words.{wordBits, lostAt, wordsFor, bytesOf}
+use Rattle.packed.specs.Words.{wordBits, oneIn, wordsFor, bytesOf}
 
 -- the bits of the last needed word that are past the end, as packets
 unfoldable pub pastEnd : List ℕ → ℕ → List ℕ
-pastEnd words packets = bytesOf (lostAt words) packets (wordBits * wordsFor packets - packets)
+pastEnd words packets = bytesOf (oneIn words) packets (wordBits * wordsFor packets - packets)
 
 -- where the first of them that is not zero stands among them; their number, where there is none
 abbrev pub firstPast : List ℕ → ℕ → ℕ

@@ -15,8 +15,8 @@ unfoldable pub oneAt : ℕ → ℕ → Bool
 oneAt x j = eqb (x / 2 ^ j % 2) 1
 
 -- packet i is lost
-unfoldable pub lostAt : List ℕ → ℕ → Bool
-lostAt words i = oneAt (getD words (i / wordBits) 0) (i % wordBits)
+unfoldable pub oneIn : List ℕ → ℕ → Bool
+oneIn words i = oneAt (getD words (i / wordBits) 0) (i % wordBits)
 
 -- how many words so many packets need
 abbrev pub wordsFor : ℕ → ℕ

@@ -10,7 +10,7 @@ ghost use mathlib.Core.Path.{_≡_};
 ghost use Prim.Native.Nat.{min};
 ghost use lib.ListN.{take};
 ghost use Rattle.trace.specs.Sum.{bit, count};
-ghost use Rattle.packed.specs.Words.{wordBits, oneAt, lostAt, wordsFor, numberOf};
+ghost use Rattle.packed.specs.Words.{wordBits, oneAt, oneIn, wordsFor, numberOf};
 ghost use Rattle.packed.specs.Judging.{judgedPacked};
 
 // The packets of a word.
@@ -56,7 +56,7 @@ pub fn judge(words: &[u64], packets: usize) -> Judged
 
 // The 64 packets from packet i on, packet i in the lowest bit. Packets past the words are as received.
 pub fn window(words: &[u64], i: usize) -> u64
-    ensures { λ r. ⌜ r ≡ numberOf (lostAt (now (words .entry))) i wordBits ⌝ }
+    ensures { λ r. ⌜ r ≡ numberOf (oneIn (now (words .entry))) i wordBits ⌝ }
 {
     let word = i / WORD;
     let skipped = i % WORD;
@@ -74,8 +74,8 @@ pub fn window(words: &[u64], i: usize) -> u64
 }
 
 // 1 for a lost packet, 0 for any other; past the words there is none.
-pub fn lost_at(words: &[u64], i: usize) -> usize
-    ensures { λ r. ⌜ r ≡ bit (lostAt (now (words .entry)) i) ⌝ }
+pub fn one_in(words: &[u64], i: usize) -> usize
+    ensures { λ r. ⌜ r ≡ bit (oneIn (now (words .entry)) i) ⌝ }
 {
     (window(words, i) % 2) as usize
 }
@@ -88,8 +88,8 @@ pub fn ones(word: u64) -> usize
 }
 
 // How many of the n packets from packet i on are lost, no more than a word of them.
-pub fn lost_among(words: &[u64], i: usize, n: usize) -> usize
-    ensures { λ r. ⌜ r ≡ count (lostAt (now (words .entry))) i (min n wordBits) ⌝ }
+pub fn ones_among(words: &[u64], i: usize, n: usize) -> usize
+    ensures { λ r. ⌜ r ≡ count (oneIn (now (words .entry))) i (min n wordBits) ⌝ }
 {
     if WORD <= n {
         return ones(window(words, i));

@@ -17,7 +17,7 @@ use Rattle.trace.proofs.Sums.{sum-moved, sum-cut, count-none, count-zero}
 use Rattle.batch.specs.Batches.{lossesIn, isOver}
 use Rattle.batch.proofs.Sliding.{Slid, slid, under-counted}
 use Rattle.batch.proofs.Loops.{Tallied, tallied-more}
-use Rattle.packed.specs.Words.{wordBits, oneAt, lostAt, numberOf}
+use Rattle.packed.specs.Words.{wordBits, oneAt, oneIn, numberOf}
 use Rattle.packed.proofs.Counts.{window-count}
 use Rattle.crossing.specs.Crossing.{overAfter, overAmong}
 use Rattle.packed_loss.specs.Steps.{Settled, Walked, Quiet}
@@ -166,8 +166,8 @@ module _ (words : List ℕ) (from : ℕ) where
       go (yes before) = o (both-zero any (getD words (from + j) 0) h .0) k l before
       go (no later) = let here : k ≡ from + j = omega arith in rw here (both-zero any (getD words (from + j) 0) h .1)
 
-pub lost-quiet : (words : List ℕ) (from to i j : ℕ) → Quiet words from to → from ≤ i / wordBits → i ≤ j → j < to * wordBits → lostAt words j ≡ false
-unfolding lostAt oneAt
+pub lost-quiet : (words : List ℕ) (from to i j : ℕ) → Quiet words from to → from ≤ i / wordBits → i ≤ j → j < to * wordBits → oneIn words j ≡ false
+unfolding oneIn oneAt
 lost-quiet words from to i j q l h m = rw (q .zero (j / wordBits) (omega arith) (omega arith), zero-div (2 ^ (j % wordBits)))
 
 pub quiet-none : (words : List ℕ) (from : ℕ) → from ≤ traceMax → Quiet words from from

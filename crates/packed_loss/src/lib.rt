@@ -16,7 +16,7 @@ ghost use Rattle.trace.specs.Trace.{traceMax};
 ghost use Rattle.batch.specs.declared.First.the-variants.{At};
 ghost use Rattle.batch.specs.Batches.{lossesIn, isOver, overCount, firstOver};
 ghost use Rattle.batch.specs.Loss.{lossOf, lossAnswer};
-ghost use Rattle.packed.specs.Words.{wordBits, lostAt};
+ghost use Rattle.packed.specs.Words.{wordBits, oneIn};
 ghost use Rattle.packed.specs.Judging.{judgedPacked};
 ghost use Rattle.packed_loss.specs.Steps.{group, Fitting, Settled, Walked, Quiet};
 
@@ -32,7 +32,7 @@ struct Stride {
 
 // The effective loss of a packed trace.
 pub fn effective_loss(words: &[u64], packets: usize, batch: u32, threshold: u32) -> LossRead
-    ensures { λ r. ⌜ r ≡ lossAnswer (judgedPacked (now (words .entry)) packets) (lostAt (now (words .entry))) packets batch threshold ⌝ }
+    ensures { λ r. ⌜ r ≡ lossAnswer (judgedPacked (now (words .entry)) packets) (oneIn (now (words .entry))) packets batch threshold ⌝ }
 {
     match batch::judge_for(packed::judge(words, packets), packets, batch, threshold) {
         Judged::Accepted => {
@@ -46,7 +46,7 @@ pub fn effective_loss(words: &[u64], packets: usize, batch: u32, threshold: u32)
 // The effective loss of an accepted trace.
 fn loss_of(w: &[u64], packets: usize, batch: usize, threshold: usize) -> EffectiveLoss
     requires { ⌜ Fitting packets batch threshold ⌝ }
-    ensures { λ r. ⌜ r ≡ lossOf (lostAt (now (w .entry))) packets batch threshold ⌝ }
+    ensures { λ r. ⌜ r ≡ lossOf (oneIn (now (w .entry))) packets batch threshold ⌝ }
 {
     let batches = packets - batch + 1;
     let reached = first_over(w, packets, batch, threshold);
@@ -63,8 +63,8 @@ fn loss_of(w: &[u64], packets: usize, batch: usize, threshold: usize) -> Effecti
 // The first batch over the threshold. Strides without one are passed by; the next goes packet by packet, until a batch is over.
 fn first_over(w: &[u64], packets: usize, batch: usize, threshold: usize) -> Reached
     requires { ⌜ Fitting packets batch threshold ⌝ }
-    ensures first { λ r. ⌜ r .first ≡ firstOver (lostAt (now (w .entry))) packets batch threshold ⌝ }
-    ensures losses { λ r. ⌜ ((k : ℕ) → r .first ≡ At k → r .losses ≡ lossesIn (lostAt (now (w .entry))) batch k) ⌝ }
+    ensures first { λ r. ⌜ r .first ≡ firstOver (oneIn (now (w .entry))) packets batch threshold ⌝ }
+    ensures losses { λ r. ⌜ ((k : ℕ) → r .first ≡ At k → r .losses ≡ lossesIn (oneIn (now (w .entry))) batch k) ⌝ }
 {
     let last = packets - batch;
     let mut losses = first_losses(w, batch);
@@ -89,7 +89,7 @@ fn first_over(w: &[u64], packets: usize, batch: usize, threshold: usize) -> Reac
         losses = passed.losses;
         let end = stride_end(start, last);
         while start < end {
-            losses = losses + packed::lost_at(w, start + batch) - packed::lost_at(w, start);
+            losses = losses + packed::one_in(w, start + batch) - packed::one_in(w, start);
             start += 1;
             if threshold < losses {
                 first = First::At(start);
@@ -110,8 +110,8 @@ fn go_on(
     from: Running,
     stop: bool,
 ) -> Stride
-    requires { ⌜ Fitting packets batch threshold × (from .start + batch ≤ packets) × (from .losses ≡ lossesIn (lostAt (now w)) batch (from .start)) ⌝ }
-    ensures { λ r. ⌜ Walked (lostAt (now (w .entry))) packets batch threshold (from .start) stop (r .over) (r .start) (r .losses) ⌝ }
+    requires { ⌜ Fitting packets batch threshold × (from .start + batch ≤ packets) × (from .losses ≡ lossesIn (oneIn (now w)) batch (from .start)) ⌝ }
+    ensures { λ r. ⌜ Walked (oneIn (now (w .entry))) packets batch threshold (from .start) stop (r .over) (r .start) (r .losses) ⌝ }
 {
     let last = packets - batch;
     let mut over = 0;
@@ -143,8 +143,8 @@ fn stride_end(k: usize, last: usize) -> usize
 
 // How many batches are over the threshold. None before the first is, so the count goes on from there.
 fn over_count(w: &[u64], packets: usize, batch: usize, threshold: usize, reached: Reached) -> usize
-    requires { ⌜ Fitting packets batch threshold × (reached .first ≡ firstOver (lostAt (now w)) packets batch threshold) × ((k : ℕ) → reached .first ≡ At k → reached .losses ≡ lossesIn (lostAt (now w)) batch k) ⌝ }
-    ensures { λ r. ⌜ r ≡ overCount (lostAt (now (w .entry))) packets batch threshold ⌝ }
+    requires { ⌜ Fitting packets batch threshold × (reached .first ≡ firstOver (oneIn (now w)) packets batch threshold) × ((k : ℕ) → reached .first ≡ At k → reached .losses ≡ lossesIn (oneIn (now w)) batch k) ⌝ }
+    ensures { λ r. ⌜ r ≡ overCount (oneIn (now (w .entry))) packets batch threshold ⌝ }
 {
     let first = reached.first;
     let losses = reached.losses;
@@ -158,8 +158,8 @@ fn over_count(w: &[u64], packets: usize, batch: usize, threshold: usize, reached
 
 // How many batches after a batch are over the threshold: by strides, and the rest one by one.
 fn over_after(w: &[u64], packets: usize, batch: usize, threshold: usize, from: Running) -> usize
-    requires { ⌜ Fitting packets batch threshold × (from .start + batch ≤ packets) × (from .losses ≡ lossesIn (lostAt (now w)) batch (from .start)) ⌝ }
-    ensures { λ r. ⌜ r ≡ count (isOver (lostAt (now (w .entry))) batch threshold) (from .start + 1) (packets - batch - from .start) ⌝ }
+    requires { ⌜ Fitting packets batch threshold × (from .start + batch ≤ packets) × (from .losses ≡ lossesIn (oneIn (now w)) batch (from .start)) ⌝ }
+    ensures { λ r. ⌜ r ≡ count (isOver (oneIn (now (w .entry))) batch threshold) (from .start + 1) (packets - batch - from .start) ⌝ }
 {
     let walked = go_on(w, packets, batch, threshold, from, false);
     let start = walked.start;
@@ -173,8 +173,8 @@ fn over_after(w: &[u64], packets: usize, batch: usize, threshold: usize, from: R
 // The stride after a batch that is not within 64 of the last: 64 batches, or where the batch holds no loss as many as go by until
 // the next word with one.
 fn settle(w: &[u64], packets: usize, batch: usize, threshold: usize, from: Running) -> Stride
-    requires { ⌜ Fitting packets batch threshold × (from .start + wordBits + batch ≤ packets) × (from .losses ≡ lossesIn (lostAt (now w)) batch (from .start)) ⌝ }
-    ensures { λ r. ⌜ Settled (lostAt (now (w .entry))) packets batch threshold (from .start) (r .over) (r .start) (r .losses) ⌝ }
+    requires { ⌜ Fitting packets batch threshold × (from .start + wordBits + batch ≤ packets) × (from .losses ≡ lossesIn (oneIn (now w)) batch (from .start)) ⌝ }
+    ensures { λ r. ⌜ Settled (oneIn (now (w .entry))) packets batch threshold (from .start) (r .over) (r .start) (r .losses) ⌝ }
 {
     let start = from.start;
     let end = clear_until(w, packets, start + batch, from.losses);
@@ -191,7 +191,7 @@ fn settle(w: &[u64], packets: usize, batch: usize, threshold: usize, from: Runni
 // Where a batch holds no loss, the packets from packet i behind it up to this one are not lost.
 fn clear_until(w: &[u64], packets: usize, i: usize, losses: usize) -> usize
     requires { ⌜ (packets ≤ traceMax) × (i ≤ packets) ⌝ }
-    ensures { λ r. ⌜ (r ≤ packets) × (i < r → losses ≡ 0) × ((j : ℕ) → i ≤ j → j < r → lostAt (now (w .entry)) j ≡ false) ⌝ }
+    ensures { λ r. ⌜ (r ≤ packets) × (i < r → losses ≡ 0) × ((j : ℕ) → i ≤ j → j < r → oneIn (now (w .entry)) j ≡ false) ⌝ }
 {
     if losses != 0 {
         return i;
@@ -201,8 +201,8 @@ fn clear_until(w: &[u64], packets: usize, i: usize, losses: usize) -> usize
 
 // The 64 batches after a batch, by the packets that enter and those that leave.
 fn settle_word(w: &[u64], packets: usize, batch: usize, threshold: usize, from: Running) -> Stride
-    requires { ⌜ Fitting packets batch threshold × (from .start + wordBits + batch ≤ packets) × (from .losses ≡ lossesIn (lostAt (now w)) batch (from .start)) ⌝ }
-    ensures { λ r. ⌜ Settled (lostAt (now (w .entry))) packets batch threshold (from .start) (r .over) (r .start) (r .losses) ⌝ }
+    requires { ⌜ Fitting packets batch threshold × (from .start + wordBits + batch ≤ packets) × (from .losses ≡ lossesIn (oneIn (now w)) batch (from .start)) ⌝ }
+    ensures { λ r. ⌜ Settled (oneIn (now (w .entry))) packets batch threshold (from .start) (r .over) (r .start) (r .losses) ⌝ }
 {
     let start = from.start;
     let losses = from.losses;
@@ -218,7 +218,7 @@ fn settle_word(w: &[u64], packets: usize, batch: usize, threshold: usize, from: 
 // Packets from packet i on up to this one, no further than the last, are not lost: whole words of them.
 fn quiet_end(w: &[u64], packets: usize, i: usize) -> usize
     requires { ⌜ (packets ≤ traceMax) × (i ≤ packets) ⌝ }
-    ensures { λ r. ⌜ (r ≤ packets) × ((j : ℕ) → i ≤ j → j < r → lostAt (now (w .entry)) j ≡ false) ⌝ }
+    ensures { λ r. ⌜ (r ≤ packets) × ((j : ℕ) → i ≤ j → j < r → oneIn (now (w .entry)) j ≡ false) ⌝ }
 {
     let most = least(w.len(), packets / WORD + 1);
     let end = quiet_words(w, quiet_groups(w, i / WORD, most), most);
@@ -272,7 +272,7 @@ fn any_one(w: &[u64], from: usize) -> u64
 // The losses in the first batch, by the ones of whole words and of the front of one more.
 fn first_losses(w: &[u64], batch: usize) -> usize
     requires { ⌜ batch ≤ traceMax ⌝ }
-    ensures { λ r. ⌜ r ≡ lossesIn (lostAt (now (w .entry))) batch 0 ⌝ }
+    ensures { λ r. ⌜ r ≡ lossesIn (oneIn (now (w .entry))) batch 0 ⌝ }
 {
     let mut losses = 0;
     let mut i = 0;
@@ -280,7 +280,7 @@ fn first_losses(w: &[u64], batch: usize) -> usize
         losses += packed::ones(packed::window(w, i));
         i += WORD;
     }
-    losses + packed::lost_among(w, i, batch - i)
+    losses + packed::ones_among(w, i, batch - i)
 }
 
 fn least(a: usize, b: usize) -> usize

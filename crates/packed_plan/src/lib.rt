@@ -13,7 +13,7 @@ ghost use Rattle.resend.specs.Plans.{marked, marks};
 ghost use Rattle.resend.specs.Greedy.{planOf};
 ghost use Rattle.resend.specs.Steps.{leaving, Filling};
 ghost use Rattle.resend.specs.Answer.{planAnswer, bufferAfter, Plannable, PlannedBest};
-ghost use Rattle.packed.specs.Words.{wordBits, lostAt, numberOf};
+ghost use Rattle.packed.specs.Words.{wordBits, oneIn, numberOf};
 ghost use Rattle.packed.specs.Judging.{judgedPacked};
 ghost use Rattle.packed_plan.specs.Steps.{behind, cleared, Standing};
 
@@ -25,9 +25,9 @@ struct Filled {
 
 // Writes the plan of a packed trace into the front of out. The clause `best` is demand 3 by itself, as with the byte form.
 pub fn plan(words: &[u64], packets: usize, batch: u32, threshold: u32, out: &mut [u8]) -> Planned
-    ensures answer { λ r. ⌜ r ≡ planAnswer (judgedPacked (now (words .entry)) packets) (lostAt (now (words .entry))) packets batch threshold (now (out .entry)) ⌝ }
-    ensures buffer { λ r. ⌜ now (out .exit) ≡ bufferAfter (judgedPacked (now (words .entry)) packets) (lostAt (now (words .entry))) packets batch threshold (now (out .entry)) ⌝ }
-    ensures best { λ r. ⌜ (Plannable (judgedPacked (now (words .entry)) packets) packets batch threshold (now (out .entry)) → PlannedBest (lostAt (now (words .entry))) packets batch threshold (now (out .entry)) r (now (out .exit))) ⌝ }
+    ensures answer { λ r. ⌜ r ≡ planAnswer (judgedPacked (now (words .entry)) packets) (oneIn (now (words .entry))) packets batch threshold (now (out .entry)) ⌝ }
+    ensures buffer { λ r. ⌜ now (out .exit) ≡ bufferAfter (judgedPacked (now (words .entry)) packets) (oneIn (now (words .entry))) packets batch threshold (now (out .entry)) ⌝ }
+    ensures best { λ r. ⌜ (Plannable (judgedPacked (now (words .entry)) packets) packets batch threshold (now (out .entry)) → PlannedBest (oneIn (now (words .entry))) packets batch threshold (now (out .entry)) r (now (out .exit))) ⌝ }
 {
     match batch::judge_for(packed::judge(words, packets), packets, batch, threshold) {
         Judged::Accepted => {
@@ -44,8 +44,8 @@ pub fn plan(words: &[u64], packets: usize, batch: u32, threshold: u32, out: &mut
 // The plan of the lost packets, and the number of its marks.
 fn fill(w: &[u64], packets: usize, batch: usize, threshold: usize, out: &mut [u8]) -> usize
     requires { ⌜ (1 ≤ batch) × (packets ≤ length (now out)) × (packets ≤ traceMax) ⌝ }
-    ensures count { λ r. ⌜ r ≡ marks (planOf (lostAt (now (w .entry))) batch threshold packets) ⌝ }
-    ensures buffer { λ r. ⌜ now (out .exit) ≡ planOf (lostAt (now (w .entry))) batch threshold packets ++ drop packets (now (out .entry)) ⌝ }
+    ensures count { λ r. ⌜ r ≡ marks (planOf (oneIn (now (w .entry))) batch threshold packets) ⌝ }
+    ensures buffer { λ r. ⌜ now (out .exit) ≡ planOf (oneIn (now (w .entry))) batch threshold packets ++ drop packets (now (out .entry)) ⌝ }
 {
     let mut left = 0;
     let mut marks = 0;
@@ -70,10 +70,10 @@ fn fill_word(
     i: usize,
     left: usize,
 ) -> Filled
-    requires { ⌜ Standing (lostAt (now w)) batch threshold packets (now out) left i × (packets ≤ traceMax) × (i + wordBits ≤ packets) ⌝ }
-    ensures { λ r. ⌜ Filling (lostAt (now (w .entry))) batch threshold packets (now (out .entry)) (now (out .exit)) (r .left) (count (marked (planOf (lostAt (now (w .entry))) batch threshold packets)) 0 i + r .marks) (i + wordBits) ⌝ }
+    requires { ⌜ Standing (oneIn (now w)) batch threshold packets (now out) left i × (packets ≤ traceMax) × (i + wordBits ≤ packets) ⌝ }
+    ensures { λ r. ⌜ Filling (oneIn (now (w .entry))) batch threshold packets (now (out .entry)) (now (out .exit)) (r .left) (count (marked (planOf (oneIn (now (w .entry))) batch threshold packets)) 0 i + r .marks) (i + wordBits) ⌝ }
 {
-    let enters = packed::lost_among(w, i, WORD);
+    let enters = packed::ones_among(w, i, WORD);
     if threshold < left + enters {
         return fill_each(w, packets, batch, threshold, out, i, i + WORD, left);
     }
@@ -83,7 +83,7 @@ fn fill_word(
     }
     let from = less(i, batch);
     let n = less(i + WORD, batch) - from;
-    let leaves = packed::lost_among(w, from, n) - marks_among(out, from, n);
+    let leaves = packed::ones_among(w, from, n) - marks_among(out, from, n);
     Filled {
         left: left + enters - leaves,
         marks: 0,
@@ -102,8 +102,8 @@ fn fill_each(
     end: usize,
     running: usize,
 ) -> Filled
-    requires { ⌜ Standing (lostAt (now w)) batch threshold packets (now out) running i × (packets ≤ traceMax) × (i ≤ end) × (end ≤ packets) × (end ≤ i + wordBits) ⌝ }
-    ensures { λ r. ⌜ Filling (lostAt (now (w .entry))) batch threshold packets (now (out .entry)) (now (out .exit)) (r .left) (count (marked (planOf (lostAt (now (w .entry))) batch threshold packets)) 0 i + r .marks) end ⌝ }
+    requires { ⌜ Standing (oneIn (now w)) batch threshold packets (now out) running i × (packets ≤ traceMax) × (i ≤ end) × (end ≤ packets) × (end ≤ i + wordBits) ⌝ }
+    ensures { λ r. ⌜ Filling (oneIn (now (w .entry))) batch threshold packets (now (out .entry)) (now (out .exit)) (r .left) (count (marked (planOf (oneIn (now (w .entry))) batch threshold packets)) 0 i + r .marks) end ⌝ }
 {
     let mut enters = packed::window(w, i);
     let mut leaves = gone(w, batch, i);
@@ -125,8 +125,8 @@ fn fill_each(
 // The running count without the packet that stands `batch` before packet i; `gone` says whether one does that is lost. Its mark is read
 // only then: with a small batch it has just been written, and reading it at every packet would make each wait for the one before.
 fn slide(w: &[u64], plan: &[u8], batch: usize, i: usize, left: usize, gone: u64) -> usize
-    requires { ⌜ (1 ≤ batch) × (i < length (now plan)) × (gone ≡ bit (behind (lostAt (now w)) batch i)) × (leaving (lostAt (now w)) batch (now plan) i ≤ left) × (batch ≤ i → getD (now plan) (i - batch) 0 ≤ bit (lostAt (now w) (i - batch))) ⌝ }
-    ensures { λ r. ⌜ r ≡ left - leaving (lostAt (now (w .entry))) batch (now (plan .entry)) i ⌝ }
+    requires { ⌜ (1 ≤ batch) × (i < length (now plan)) × (gone ≡ bit (behind (oneIn (now w)) batch i)) × (leaving (oneIn (now w)) batch (now plan) i ≤ left) × (batch ≤ i → getD (now plan) (i - batch) 0 ≤ bit (oneIn (now w) (i - batch))) ⌝ }
+    ensures { λ r. ⌜ r ≡ left - leaving (oneIn (now (w .entry))) batch (now (plan .entry)) i ⌝ }
 {
     if gone == 0 {
         return left;
@@ -137,7 +137,7 @@ fn slide(w: &[u64], plan: &[u8], batch: usize, i: usize, left: usize, gone: u64)
 
 // Of the 64 packets from packet i on: whether a lost one stands `batch` before each, the first in the lowest bit.
 fn gone(w: &[u64], batch: usize, i: usize) -> u64
-    ensures { λ r. ⌜ r ≡ numberOf (behind (lostAt (now (w .entry))) batch) i wordBits ⌝ }
+    ensures { λ r. ⌜ r ≡ numberOf (behind (oneIn (now (w .entry))) batch) i wordBits ⌝ }
 {
     if batch <= i {
         return packed::window(w, i - batch);

@@ -14,7 +14,7 @@ use Rattle.refusal.specs.declared.Written.the-variants.{Size, Refused}
 use Rattle.trace.specs.Trace.{lost, traceMax, countedAt, judgedWithin}
 use Rattle.trace.specs.Laws.{IsWithin}
 use Rattle.trace.specs.declared.Event.the-variants.{Lost}
-use Rattle.packed.specs.Words.{wordsFor, lostAt, bytesOf}
+use Rattle.packed.specs.Words.{wordsFor, oneIn, bytesOf}
 use Rattle.packed.specs.Judging.{judgedPacked}
 use Rattle.packing.specs.Packing.{wordsOf, packAnswer, unpackAnswer}
 use Rattle.packing.specs.Laws.{packedInto, unpackedInto}
@@ -59,6 +59,6 @@ module _ (words : List ℕ) (packets : ℕ) (buffer : List ℕ) where
     unfolding unpackAnswer
     unpack-short h = rw (is, lt-leb packets (length buffer) h) (refl, refl)
 
-    pub unpack-done : packets ≤ length buffer → Unpacked (Size packets) (bytesOf (lostAt words) 0 packets ++ drop packets buffer)
+    pub unpack-done : packets ≤ length buffer → Unpacked (Size packets) (bytesOf (oneIn words) 0 packets ++ drop packets buffer)
     unfolding unpackAnswer
     unpack-done h = rw (is, le-leb packets (length buffer) h) (refl, refl)

@@ -21,9 +21,9 @@ use Rattle.trace.specs.Laws.{IsWithin}
 use Rattle.trace.specs.declared.Event.the-variants.{Lost}
 use Rattle.trace.proofs.Sums.{bit-le}
 use Rattle.trace.proofs.Judging.{within-accepted}
-use Rattle.packed.specs.Words.{wordBits, oneAt, lostAt, wordsFor, numberOf, bytesOf}
+use Rattle.packed.specs.Words.{wordBits, oneAt, oneIn, wordsFor, numberOf, bytesOf}
 use Rattle.packed.proofs.Numbers.{number-at, number-same}
-use Rattle.packed.proofs.Windows.{lost-word, part-word}
+use Rattle.packed.proofs.Windows.{one-word, part-word}
 use Rattle.packed.proofs.Bytes.{length-bytes, getD-bytes, bytes-same}
 use Rattle.packed.proofs.Laws.{packed-accepted}
 use Rattle.packing.specs.Packing.{wordsUpTo, wordsOf, packAnswer}
@@ -51,14 +51,14 @@ getD-words f (suc n) k h = go (decLt k n) (getD-words f n k)
         let here : k ≡ n = omega arith in
         rw here (getD-at (wordsUpTo f n) (numberOf f (wordBits * n) wordBits) [] 0 n (length-words f n))
 
-packets-of-words : (f : ℕ → Bool) (n : ℕ) (rest : List ℕ) (i : ℕ) → i < wordBits * n → lostAt (wordsUpTo f n ++ rest) i ≡ f i
+packets-of-words : (f : ℕ → Bool) (n : ℕ) (rest : List ℕ) (i : ℕ) → i < wordBits * n → oneIn (wordsUpTo f n ++ rest) i ≡ f i
 unfolding oneAt
 packets-of-words f n rest i h =
     let q : ℕ = i / wordBits in
     let r : ℕ = i % wordBits in
     let at : wordBits * q + r ≡ i = omega arith in
     let word = List·getD-append (wordsUpTo f n) rest 0 q (omega (arith, length-words f n)) ∙ getD-words f n q (omega arith) in
-    ap (lostAt (wordsUpTo f n ++ rest)) (sym at) ∙ lost-word (wordsUpTo f n ++ rest) q r (omega arith) ∙ ap (λ (w : ℕ). oneAt w r) word
+    ap (oneIn (wordsUpTo f n ++ rest)) (sym at) ∙ one-word (wordsUpTo f n ++ rest) q r (omega arith) ∙ ap (λ (w : ℕ). oneAt w r) word
     ∙ ap (λ (d : ℕ). eqb d 1) (number-at f (wordBits * q) wordBits r (omega arith)) ∙ bit-lost (f (wordBits * q + r)) ∙ ap f at
 
 -- the bytes of a trace's packets are the trace
@@ -76,14 +76,14 @@ unfolding countsAs
 packets-of-bytes f n i h = ap (λ (p : ℕ). eqb p lost) (getD-bytes f 0 n i h ∙ ap (λ (k : ℕ). bit (f k)) (zero-add i)) ∙ bit-lost (f i)
 
 -- the words of the packets of words, which are of 64 bits, are those words
-words-of : (f : ℕ → Bool) (words : List ℕ) (n : ℕ) → n ≤ length words → ((k : ℕ) → getD words k 0 < 2 ^ 64) → ((i : ℕ) → i < wordBits * n → f i ≡ lostAt words i) →
+words-of : (f : ℕ → Bool) (words : List ℕ) (n : ℕ) → n ≤ length words → ((k : ℕ) → getD words k 0 < 2 ^ 64) → ((i : ℕ) → i < wordBits * n → f i ≡ oneIn words i) →
     wordsUpTo f n ≡ take n words
 unfolding wordsUpTo
 words-of f words zero h fits same = refl
 words-of f words (suc n) h fits same =
     let word : numberOf f (wordBits * n) wordBits ≡ getD words n 0 =
-    number-same f (lostAt words) (wordBits * n) (wordBits * n) wordBits (λ j l. same (wordBits * n + j) (omega arith))
-    ∙ ap (λ (i : ℕ). numberOf (lostAt words) i wordBits) (sym (add-zero (wordBits * n))) ∙ part-word words n 0 wordBits (omega arith)
+    number-same f (oneIn words) (wordBits * n) (wordBits * n) wordBits (λ j l. same (wordBits * n + j) (omega arith))
+    ∙ ap (λ (i : ℕ). numberOf (oneIn words) i wordBits) (sym (add-zero (wordBits * n))) ∙ part-word words n 0 wordBits (omega arith)
     ∙ ap (λ (w : ℕ). w % 2 ^ 64) (div-one (getD words n 0)) ∙ mod-eq-of-lt (fits n)
     in
     ap₂ (λ (l : List ℕ) (w : ℕ). l ++ (w ∷ [])) (words-of f words n (omega arith) fits (λ i l. same i (omega arith))) word ∙ sym (take-suc words n 0 (omega arith))
@@ -94,8 +94,8 @@ packed-form s buffer t enough =
     let n : ℕ = wordsFor (length s) in
     let packed = pack-done s buffer (within-accepted traceMax lost s t) enough in
     let words : List ℕ = packedInto s buffer in
-    let same : (i : ℕ) → i < wordBits * n → lostAt words i ≡ f i =
-    λ i h. ap (λ (l : List ℕ). lostAt l i) (sym (packed .1)) ∙ packets-of-words f n (drop n buffer) i h
+    let same : (i : ℕ) → i < wordBits * n → oneIn words i ≡ f i =
+    λ i h. ap (λ (l : List ℕ). oneIn l i) (sym (packed .1)) ∙ packets-of-words f n (drop n buffer) i h
     in
     let long : length words ≡ n + length (drop n buffer) = ap length (sym (packed .1)) ∙ length-append (wordsUpTo f n) (drop n buffer) ∙ ap (λ (k : ℕ). k + length (drop n buffer)) (length-words f n) in
     record {
@@ -108,8 +108,8 @@ pack-unpack s buffer room t enough fits =
     let words : List ℕ = packedInto s buffer in
     let form = packed-form s buffer t enough in
     let unpacked = unpack-done words (length s) room (packed-accepted words (length s) (form .packed)) fits in
-    let bytes : bytesOf (lostAt words) 0 (length s) ≡ s =
-    bytes-same (lostAt words) (countedAt Lost s) 0 0 (length s) (λ j h. rw (zero-add j) (form .same j h)) ∙ bytes-of s (within-bits traceMax s t)
+    let bytes : bytesOf (oneIn words) 0 (length s) ≡ s =
+    bytes-same (oneIn words) (countedAt Lost s) 0 0 (length s) (λ j h. rw (zero-add j) (form .same j h)) ∙ bytes-of s (within-bits traceMax s t)
     in (
       sym (pack-done s buffer (within-accepted traceMax lost s t) enough .0),
       sym (unpacked .0),
@@ -118,7 +118,7 @@ pack-unpack s buffer room t enough fits =
 
 pub unpack-pack : Unpack-pack
 unpack-pack words room buffer packets word-fits p fits enough =
-    let f = lostAt words in
+    let f = oneIn words in
     let n : ℕ = wordsFor packets in
     let bytes : List ℕ = bytesOf f 0 packets in
     let long : length bytes ≡ packets = length-bytes f 0 packets in

@@ -12,9 +12,9 @@ use lib.ListN.{length, getD, length-append, List·getD-eq-default}
 use lib.Pow.{pow-mono, shl-exact, shr-shr, field, mod-mod-pow}
 use Rattle.trace.specs.Trace.{countedAt, countsAs}
 use Rattle.trace.specs.declared.Event.the-variants.{Lost}
-use Rattle.packed.specs.Words.{wordBits, oneAt, lostAt, numberOf, bytesOf}
+use Rattle.packed.specs.Words.{wordBits, oneAt, oneIn, numberOf, bytesOf}
 use Rattle.packed.proofs.Numbers.{number-cut, number-lt, number-zero, bit-of}
-use Rattle.packed.proofs.Windows.{lost-word}
+use Rattle.packed.proofs.Windows.{one-word}
 use Rattle.packed.proofs.Bytes.{length-bytes, bytes-cut, bytes-same}
 use Rattle.packing.specs.Packing.{wordsUpTo}
 use Rattle.packing.proofs.Placing.{Fronts}
@@ -63,8 +63,8 @@ bytes-more lost lost′ m n same =
     bytes-cut lost 0 m n
     ∙ ap (λ (l : List ℕ). bytesOf lost 0 m ++ l) (bytes-same lost lost′ (0 + m) 0 n (λ j h. rw (zero-add m, zero-add j) (same j h)))
 
-pub word-more : (words : List ℕ) (k n : ℕ) → n ≤ wordBits → bytesOf (lostAt words) 0 (wordBits * k + n) ≡ bytesOf (lostAt words) 0 (wordBits * k) ++ bytesOf (oneAt (getD words k 0)) 0 n
-word-more words k n h = bytes-more (lostAt words) (oneAt (getD words k 0)) (wordBits * k) n (λ j l. lost-word words k j (omega arith))
+pub word-more : (words : List ℕ) (k n : ℕ) → n ≤ wordBits → bytesOf (oneIn words) 0 (wordBits * k + n) ≡ bytesOf (oneIn words) 0 (wordBits * k) ++ bytesOf (oneAt (getD words k 0)) 0 n
+word-more words k n h = bytes-more (oneIn words) (oneAt (getD words k 0)) (wordBits * k) n (λ j l. one-word words k j (omega arith))
 
 pub octet-more : (word m : ℕ) → bytesOf (oneAt word) 0 (m + 8) ≡ bytesOf (oneAt word) 0 m ++ bytesOf (oneAt (word / 2 ^ m % 256)) 0 8
 unfolding oneAt

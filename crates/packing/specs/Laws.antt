@@ -9,7 +9,7 @@ use Rattle.refusal.specs.declared.Written.the-variants.{Size}
 use Rattle.trace.specs.declared.Event.the-variants.{Lost}
 use Rattle.trace.specs.Trace.{lost, traceMax, countedAt}
 use Rattle.trace.specs.Laws.{IsWithin}
-use Rattle.packed.specs.Words.{wordsFor, lostAt, bytesOf}
+use Rattle.packed.specs.Words.{wordsFor, oneIn, bytesOf}
 use Rattle.packed.specs.Laws.{IsPacked}
 use Rattle.packing.specs.Packing.{wordsOf, packAnswer, unpackAnswer}
 
@@ -18,12 +18,12 @@ abbrev pub packedInto : List ℕ → List ℕ → List ℕ
 packedInto s buffer = after (packAnswer s buffer) (wordsOf (countedAt Lost s) (length s)) buffer
 
 abbrev pub unpackedInto : List ℕ → ℕ → List ℕ → List ℕ
-unpackedInto words packets buffer = after (unpackAnswer words packets buffer) (bytesOf (lostAt words) 0 packets) buffer
+unpackedInto words packets buffer = after (unpackAnswer words packets buffer) (bytesOf (oneIn words) 0 packets) buffer
 
 -- What packing leaves, words behind the needed ones and all, is a packed trace, and its packets are lost as the trace's are.
 pub record PacksAs (s words : List ℕ) : Type 0 where
   pub packed : IsPacked words (length s)
-  pub same : (i : ℕ) → i < length s → lostAt words i ≡ countedAt Lost s i
+  pub same : (i : ℕ) → i < length s → oneIn words i ≡ countedAt Lost s i
 
 abbrev pub Packed-form : Type 0
 Packed-form = (s buffer : List ℕ) → IsWithin traceMax lost s → wordsFor (length s) ≤ length buffer → PacksAs s (packedInto s buffer)

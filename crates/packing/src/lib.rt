@@ -11,7 +11,7 @@ ghost use Rattle.refusal.specs.Answer.{after};
 ghost use Rattle.trace.specs.declared.Event.the-variants.{Lost};
 ghost use Rattle.trace.specs.Trace.{countedAt};
 ghost use Rattle.wire.specs.BigEndian.{placed};
-ghost use Rattle.packed.specs.Words.{wordBits, oneAt, lostAt, wordsFor, numberOf, bytesOf};
+ghost use Rattle.packed.specs.Words.{wordBits, oneAt, oneIn, wordsFor, numberOf, bytesOf};
 ghost use Rattle.packing.specs.Packing.{wordsOf, packAnswer, unpackAnswer};
 ghost use Rattle.packing.specs.Steps.{Bits, spread, ones, Gathered};
 
@@ -115,7 +115,7 @@ fn gathered(eight: u64) -> u64
 // Unpacks words into the front of out, 0 for a received and 1 for a lost packet; answers how many packets these are.
 pub fn unpack(words: &[u64], packets: usize, out: &mut [u8]) -> Written
     ensures answer { λ r. ⌜ r ≡ unpackAnswer (now (words .entry)) packets (now (out .entry)) ⌝ }
-    ensures buffer { λ r. ⌜ now (out .exit) ≡ after (unpackAnswer (now (words .entry)) packets (now (out .entry))) (bytesOf (lostAt (now (words .entry))) 0 packets) (now (out .entry)) ⌝ }
+    ensures buffer { λ r. ⌜ now (out .exit) ≡ after (unpackAnswer (now (words .entry)) packets (now (out .entry))) (bytesOf (oneIn (now (words .entry))) 0 packets) (now (out .entry)) ⌝ }
 {
     match packed::judge(words, packets) {
         Judged::Accepted => {
@@ -132,7 +132,7 @@ pub fn unpack(words: &[u64], packets: usize, out: &mut [u8]) -> Written
 // Unpacks so many packets into the front of out, which has room for them.
 fn put_packets(words: &[u64], packets: usize, out: &mut [u8])
     requires { ⌜ (wordsFor packets ≤ length (now words)) × (packets ≤ length (now out)) ⌝ }
-    ensures { λ r. ⌜ now (out .exit) ≡ bytesOf (lostAt (now (words .entry))) 0 packets ++ drop packets (now (out .entry)) ⌝ }
+    ensures { λ r. ⌜ now (out .exit) ≡ bytesOf (oneIn (now (words .entry))) 0 packets ++ drop packets (now (out .entry)) ⌝ }
 {
     let whole = packets / WORD;
     let mut k = 0;

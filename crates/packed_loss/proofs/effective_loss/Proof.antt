@@ -12,10 +12,10 @@ use Rattle.batch.specs.Loss.{lossOf}
 use Rattle.batch.proofs.Judging.{fit}
 use Rattle.batch.proofs.Answering.{refused, measured}
 use Rattle.batch.proofs.Same.{same-loss}
-use Rattle.packed.specs.Words.{lostAt}
+use Rattle.packed.specs.Words.{oneIn}
 use Rattle.packed.specs.Judging.{judgedPacked}
 use Rattle.packed.proofs.Laws.{accepted-packed}
-use Rattle.packed.proofs.Windows.{lost-needed}
+use Rattle.packed.proofs.Windows.{one-needed}
 use borrow.Author.Needs.{needs}
 use Rattle.packed_loss.proofs.effective_loss.Statement.{statement}
 use Rattle.packed_loss.proofs.effective_loss.Tie as tie
@@ -53,9 +53,9 @@ enum-known-r c = search needs
 returns : tie.Need-returns
 returns c =
     let a = c .before .before .before .before .before .before .before .args in
-    let lost = ap (λ (w : List ℕ). lossOf (lostAt w) (a .packets) (a .batch) (a .threshold)) (c .before .needed .ensures) in
+    let lost = ap (λ (w : List ℕ). lossOf (oneIn w) (a .packets) (a .batch) (a .threshold)) (c .before .needed .ensures) in
     measured _ _ _ _ _ _ (taken (c .before .before)) (c .loss-of .ensures ∙ lost)
-    ∙ same-loss _ _ _ _ _ _ (lost-needed (a .words .now) (a .packets))
+    ∙ same-loss _ _ _ _ _ _ (one-needed (a .words .now) (a .packets))
 
 returns-2 : tie.Need-returns-2
 returns-2 c =

@@ -4,14 +4,14 @@ use mathlib.Core.Path.{_≡_, ap, _∙_}
 use native.Mathlib.Omega.{arith}
 use Rattle.batch.proofs.Loops.{Part, part-none, part-add, part-small, part-all}
 use Rattle.trace.specs.Sum.{count}
-use Rattle.packed.specs.Words.{wordBits, oneAt, lostAt}
+use Rattle.packed.specs.Words.{wordBits, oneAt, oneIn}
 use Rattle.packed.proofs.Counts.{window-count}
 use borrow.Author.Needs.{needs}
 use Rattle.packed_loss.proofs.first_losses.Statement.{statement}
 use Rattle.packed_loss.proofs.first_losses.Tie as tie
 
 abbrev Inv-loop : tie.InvT-loop
-Inv-loop w batch losses₀ i₀ losses i = Part (lostAt w) batch 0 losses i
+Inv-loop w batch losses₀ i₀ losses i = Part (oneIn w) batch 0 losses i
 
 abbrev μ-loop : tie.MeasureT-loop
 μ-loop w batch losses₀ i₀ losses i = batch - i
@@ -32,12 +32,12 @@ ones-requires c κs = search needs
 turned : (c : tie.After-ones Inv-loop μ-loop) →
     let a = c .before .before .before .before .before .args in
     let l = c .before .before .before .loop in
-    Part (lostAt (a .w .now)) (a .batch) 0 (l .losses + c .ones .result) (l .i + wordBits)
+    Part (oneIn (a .w .now)) (a .batch) 0 (l .losses + c .ones .result) (l .i + wordBits)
 turned c =
     let a = c .before .before .before .before .before .args in
     let l = c .before .before .before .loop in
     part-add _ _ _ _ _ (l .inv) wordBits _ (l .i) (omega arith) (omega arith)
-    (c .ones .ensures ∙ ap (λ (x : ℕ). count (oneAt x) 0 wordBits) (c .before .window .ensures) ∙ window-count (lostAt (a .w .now)) (l .i) wordBits (omega arith))
+    (c .ones .ensures ∙ ap (λ (x : ℕ). count (oneAt x) 0 wordBits) (c .before .window .ensures) ∙ window-count (oneIn (a .w .now)) (l .i) wordBits (omega arith))
 
 add-losses : tie.Need-add-losses Inv-loop μ-loop
 add-losses c = omega (arith, turned c .within, part-small _ _ _ _ _ (turned c))
@@ -51,23 +51,23 @@ loop-less c = omega arith
 loop-again : tie.Need-loop-again Inv-loop μ-loop
 loop-again c = turned c
 
-sub-lost-among : tie.Need-sub-lost-among Inv-loop μ-loop
-sub-lost-among c = c .before .loop .inv .within
+sub-ones-among : tie.Need-sub-ones-among Inv-loop μ-loop
+sub-ones-among c = c .before .loop .inv .within
 
-lost-among-requires : tie.Need-lost-among-requires Inv-loop μ-loop
-lost-among-requires c κs = search needs
+ones-among-requires : tie.Need-ones-among-requires Inv-loop μ-loop
+ones-among-requires c κs = search needs
 
 -- and the front of one more
-whole : (c : tie.After-lost-among Inv-loop μ-loop) →
+whole : (c : tie.After-ones-among Inv-loop μ-loop) →
     let a = c .before .before .before .before .args in
     let l = c .before .before .loop in
-    Part (lostAt (a .w .now)) (a .batch) 0 (l .losses + c .lost-among .result) (l .i + (a .batch - l .i))
+    Part (oneIn (a .w .now)) (a .batch) 0 (l .losses + c .ones-among .result) (l .i + (a .batch - l .i))
 whole c =
     let a = c .before .before .before .before .args in
     let l = c .before .before .loop in
     let few : min (a .batch - l .i) wordBits ≡ a .batch - l .i = omega arith in
     part-add _ _ _ _ _ (l .inv) (a .batch - l .i) _ (l .i) (omega arith) (omega (arith, l .inv .within))
-    (c .lost-among .ensures ∙ ap (count (lostAt (a .w .now)) (l .i)) few)
+    (c .ones-among .ensures ∙ ap (count (oneIn (a .w .now)) (l .i)) few)
 
 add-result : tie.Need-add-result Inv-loop μ-loop
 add-result c = omega (arith, whole c .within, part-small _ _ _ _ _ (whole c))
@@ -89,7 +89,7 @@ first-losses-spec =
     add-i
     loop-less
     loop-again
-    sub-lost-among
-    lost-among-requires
+    sub-ones-among
+    ones-among-requires
     add-result
     returns)

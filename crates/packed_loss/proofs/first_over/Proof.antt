@@ -3,7 +3,7 @@ use Prim.Native.Nat.{_-_, _≤_}
 use mathlib.Core.Path.{_≡_, refl}
 use native.Mathlib.Omega.{arith}
 use borrow.Author.Needs.{needs}
-use Rattle.packed.specs.Words.{lostAt}
+use Rattle.packed.specs.Words.{oneIn}
 use Rattle.trace.proofs.Sums.{bit-le}
 use Rattle.batch.specs.declared.First.the-variants.{None}
 use Rattle.batch.proofs.Sliding.{Slid, slid-one}
@@ -13,27 +13,27 @@ use Rattle.packed_loss.proofs.first_over.Statement.{statement}
 use Rattle.packed_loss.proofs.first_over.Tie as tie
 
 abbrev Inv-loop : tie.InvT-loop
-Inv-loop w packets batch threshold last losses₀ first₀ start₀ end losses first start = Under (lostAt w) packets batch threshold 0 losses start × (first ≡ None) × (start ≤ end)
+Inv-loop w packets batch threshold last losses₀ first₀ start₀ end losses first start = Under (oneIn w) packets batch threshold 0 losses start × (first ≡ None) × (start ≤ end)
 
 abbrev μ-loop : tie.MeasureT-loop
 μ-loop w packets batch threshold last losses₀ first₀ start₀ end losses first start = end - start
 
 abbrev Inv-batches : tie.InvT-batches
-Inv-batches w packets batch threshold last losses₀ first₀ start₀ losses first start = Under (lostAt w) packets batch threshold 0 losses start × (first ≡ None)
+Inv-batches w packets batch threshold last losses₀ first₀ start₀ losses first start = Under (oneIn w) packets batch threshold 0 losses start × (first ≡ None)
 
 abbrev μ-batches : tie.MeasureT-batches
 μ-batches w packets batch threshold last losses₀ first₀ start₀ losses first start = last - start
 
 -- a packet counts once
-one : (c : tie.After-lost-at Inv-loop μ-loop Inv-batches μ-batches) → c .lost-at .result ≤ 1
-one c = rw (c .lost-at .ensures) (bit-le _)
+one : (c : tie.After-one-in Inv-loop μ-loop Inv-batches μ-batches) → c .one-in .result ≤ 1
+one c = rw (c .one-in .ensures) (bit-le _)
 
 -- the count of the next batch
-abbrev moved : (c : tie.After-lost-at2 Inv-loop μ-loop Inv-batches μ-batches) →
+abbrev moved : (c : tie.After-one-in2 Inv-loop μ-loop Inv-batches μ-batches) →
     let a = c .before .before .before .before .before .before .before .before .before .before .before .args in
     let l = c .before .before .before .loop in
-    Slid (lostAt (a .w .now)) (a .batch) (l .start) 1 (l .losses) (c .before .lost-at .result) (c .lost-at2 .result)
-moved c = slid-one _ _ _ _ (c .before .before .before .loop .inv .0 .losses) _ _ (c .before .lost-at .ensures) (c .lost-at2 .ensures)
+    Slid (oneIn (a .w .now)) (a .batch) (l .start) 1 (l .losses) (c .before .one-in .result) (c .one-in2 .result)
+moved c = slid-one _ _ _ _ (c .before .before .before .loop .inv .0 .losses) _ _ (c .before .one-in .ensures) (c .one-in2 .ensures)
 
 sub-last : tie.Need-sub-last Inv-loop μ-loop Inv-batches μ-batches
 sub-last c = omega arith
@@ -65,17 +65,17 @@ batches-less c = omega arith
 batches-again : tie.Need-batches-again Inv-loop μ-loop Inv-batches μ-batches
 batches-again c = (c .before .loop .inv .0, c .before .loop .inv .1)
 
-add-lost-at : tie.Need-add-lost-at Inv-loop μ-loop Inv-batches μ-batches
-add-lost-at c = omega arith
+add-one-in : tie.Need-add-one-in Inv-loop μ-loop Inv-batches μ-batches
+add-one-in c = omega arith
 
-lost-at-requires : tie.Need-lost-at-requires Inv-loop μ-loop Inv-batches μ-batches
-lost-at-requires c κs = search needs
+one-in-requires : tie.Need-one-in-requires Inv-loop μ-loop Inv-batches μ-batches
+one-in-requires c κs = search needs
 
 add-losses : tie.Need-add-losses Inv-loop μ-loop Inv-batches μ-batches
 add-losses c = omega (arith, under-small _ _ _ _ _ _ _ (c .before .before .loop .inv .0), one c, c .before .before .before .before .before .before .before .before .before .before .pre)
 
-lost-at-requires-2 : tie.Need-lost-at-requires-2 Inv-loop μ-loop Inv-batches μ-batches
-lost-at-requires-2 c κs = search needs
+one-in-requires-2 : tie.Need-one-in-requires-2 Inv-loop μ-loop Inv-batches μ-batches
+one-in-requires-2 c κs = search needs
 
 sub-losses : tie.Need-sub-losses Inv-loop μ-loop Inv-batches μ-batches
 sub-losses c = omega (arith, moved c .enough)
@@ -114,10 +114,10 @@ first-over-spec =
     loop-holds
     batches-less
     batches-again
-    add-lost-at
-    lost-at-requires
+    add-one-in
+    one-in-requires
     add-losses
-    lost-at-requires-2
+    one-in-requires-2
     sub-losses
     add-start
     loop-less

@@ -4,14 +4,14 @@ use mathlib.Core.Path.{_≡_, refl, sym, ap₂, _∙_}
 use mathlib.Core.Bool.{true}
 use native.Mathlib.Omega.{arith}
 use Rattle.batch.proofs.Loops.{Tallied, tallied-none, tallied-small}
-use Rattle.packed.specs.Words.{lostAt}
+use Rattle.packed.specs.Words.{oneIn}
 use Rattle.refusal.proofs.Tests.{and-left}
 use Rattle.packed_loss.proofs.Settling.{tallied-settled, true-false, walked, not-stopped}
 use Rattle.packed_loss.proofs.go_on.Statement.{statement}
 use Rattle.packed_loss.proofs.go_on.Tie as tie
 
 abbrev Inv-loop : tie.InvT-loop
-Inv-loop w packets batch threshold stop last over₀ start₀ losses₀ over start losses = Tallied (lostAt w) batch threshold start₀ last over losses start × (start ≤ last) × (stop ≡ true → over ≡ 0)
+Inv-loop w packets batch threshold stop last over₀ start₀ losses₀ over start losses = Tallied (oneIn w) batch threshold start₀ last over losses start × (start ≤ last) × (stop ≡ true → over ≡ 0)
 
 abbrev μ-loop : tie.MeasureT-loop
 μ-loop w packets batch threshold stop last over₀ start₀ losses₀ over start losses = last - start
@@ -33,7 +33,7 @@ turned : (c : tie.After-settle Inv-loop μ-loop) →
     let a = c .before .before .before .before .args in
     let l = c .before .before .loop in
     let s = c .settle .result in
-    Tallied (lostAt (a .w .now)) (a .batch) (a .threshold) (a .from .start) (a .packets - a .batch) (l .over + s .over) (s .losses) (s .start)
+    Tallied (oneIn (a .w .now)) (a .batch) (a .threshold) (a .from .start) (a .packets - a .batch) (l .over + s .over) (s .losses) (s .start)
 turned c = tallied-settled _ _ _ _ _ _ _ _ _ _ _ (c .before .before .loop .inv .0) (c .settle .ensures)
 
 add-over : tie.Need-add-over Inv-loop μ-loop

@@ -5,7 +5,7 @@ use native.Mathlib.Omega.{arith}
 use Rattle.trace.specs.Sum.{count}
 use Rattle.trace.proofs.Sums.{count-most}
 use Rattle.batch.specs.Batches.{isOver}
-use Rattle.packed.specs.Words.{lostAt}
+use Rattle.packed.specs.Words.{oneIn}
 use Rattle.crossing.specs.Crossing.{overAmong}
 use Rattle.packed_loss.proofs.Settling.{settled, walked-rest}
 use borrow.Author.Needs.{needs}
@@ -17,7 +17,7 @@ go-on-requires c κs = search needs
 
 -- a batch holds no more than its packets
 small : (c : tie.After-go-on) → c .go-on .result .losses ≤ c .before .before .args .batch
-small c = let a = c .before .before .args in omega (arith, c .go-on .ensures .held, count-most (lostAt (a .w .now)) (c .go-on .result .start) (a .batch))
+small c = let a = c .before .before .args in omega (arith, c .go-on .ensures .held, count-most (oneIn (a .w .now)) (c .go-on .result .start) (a .batch))
 
 cast-losses : tie.Need-cast-losses
 cast-losses c = omega (arith, small (c .before), c .before .before .before .pre .0 .within, c .before .before .before .pre .0 .most)
@@ -49,7 +49,7 @@ one-by-one-requires c κs = search needs
 -- by strides, and the rest
 whole : (c : tie.After-one-by-one) →
     let a = c .before .before .before .before .before .before .args in
-    c .before .before .before .before .go-on .result .over + c .one-by-one .result ≡ count (isOver (lostAt (a .w .now)) (a .batch) (a .threshold)) (a .from .start + 1) (a .packets - a .batch - a .from .start)
+    c .before .before .before .before .go-on .result .over + c .one-by-one .result ≡ count (isOver (oneIn (a .w .now)) (a .batch) (a .threshold)) (a .from .start + 1) (a .packets - a .batch - a .from .start)
 whole c =
     let a = c .before .before .before .before .before .before .args in
     let s = c .before .before .before .before .go-on .ensures in
@@ -57,12 +57,12 @@ whole c =
     let n : ℕ = a .packets - a .batch - k in
     let all = s .all refl in
     let within = s .within in
-    walked-rest (lostAt (a .w .now)) (a .packets) (a .batch) (a .threshold) (a .from .start) _ _ _ _ s
+    walked-rest (oneIn (a .w .now)) (a .packets) (a .batch) (a .threshold) (a .from .start) _ _ _ _ s
     (c .one-by-one .ensures ∙ ap₂ (λ (x y : ℕ). overAmong (a .threshold) (c .before .before .before .before .go-on .result .losses) x y n) (c .before .before .window .ensures) (c .before .window2 .ensures)
-    ∙ settled (lostAt (a .w .now)) (a .batch) (a .threshold) k _ (s .held) n (omega arith))
+    ∙ settled (oneIn (a .w .now)) (a .batch) (a .threshold) k _ (s .held) n (omega arith))
 
 add-result : tie.Need-add-result
-add-result c = let a = c .before .before .before .before .before .before .before .args in omega (arith, whole (c .before), count-most (isOver (lostAt (a .w .now)) (a .batch) (a .threshold)) (a .from .start + 1) (a .packets - a .batch - a .from .start), c .before .before .before .before .before .before .before .pre .0 .most)
+add-result c = let a = c .before .before .before .before .before .before .before .args in omega (arith, whole (c .before), count-most (isOver (oneIn (a .w .now)) (a .batch) (a .threshold)) (a .from .start + 1) (a .packets - a .batch - a .from .start), c .before .before .before .before .before .before .before .pre .0 .most)
 
 returns : tie.Need-returns
 returns c = whole (c .before)

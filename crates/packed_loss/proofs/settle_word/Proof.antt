@@ -2,7 +2,7 @@
 use Prim.Native.Nat.{_+_, _-_, _≤_}
 use native.Mathlib.Omega.{arith}
 use Rattle.trace.proofs.Sums.{count-most}
-use Rattle.packed.specs.Words.{wordBits, oneAt, lostAt}
+use Rattle.packed.specs.Words.{wordBits, oneAt, oneIn}
 use Rattle.packed_loss.specs.Steps.{Settled}
 use Rattle.packed_loss.proofs.Settling.{settled-word}
 use borrow.Author.Needs.{needs}
@@ -11,7 +11,7 @@ use Rattle.packed_loss.proofs.settle_word.Tie as tie
 
 -- a batch holds no more than its packets
 small : (c : tie.Start) → c .args .from .losses ≤ c .args .batch
-small c = omega (arith, c .pre .2, count-most (lostAt (c .args .w .now)) (c .args .from .start) (c .args .batch))
+small c = omega (arith, c .pre .2, count-most (oneIn (c .args .w .now)) (c .args .from .start) (c .args .batch))
 
 add-window : tie.Need-add-window
 add-window c = search needs
@@ -48,7 +48,7 @@ stride : (c : tie.After-ones2) →
     let came = c .before .ones .result in
     let left = c .ones2 .result in
     (left ≤ a .from .losses + came) ×
-    Settled (lostAt (a .w .now)) (a .packets) (a .batch) (a .threshold) (a .from .start) (c .before .before .over-in-word .result) (a .from .start + wordBits) (a .from .losses + came - left)
+    Settled (oneIn (a .w .now)) (a .packets) (a .batch) (a .threshold) (a .from .start) (c .before .before .over-in-word .result) (a .from .start + wordBits) (a .from .losses + came - left)
 stride c =
     let s = c .before .before .before .before .before .before in
     settled-word _ _ _ _ _ _ (s .pre .2) _ _ _ _ _ (s .pre .1) (c .before .before .before .before .window .ensures) (c .before .before .before .window2 .ensures)

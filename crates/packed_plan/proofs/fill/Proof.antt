@@ -3,13 +3,13 @@ use Prim.Native.Nat.{_+_, _-_}
 use native.Mathlib.Omega.{arith}
 use Rattle.resend.specs.Steps.{Filling}
 use Rattle.resend.proofs.Filling.{filling-none, filling-length, filling-small, filling-all}
-use Rattle.packed.specs.Words.{wordBits, lostAt}
+use Rattle.packed.specs.Words.{wordBits, oneIn}
 use Rattle.packed_plan.proofs.Strides.{standing, onward}
 use Rattle.packed_plan.proofs.fill.Statement.{statement}
 use Rattle.packed_plan.proofs.fill.Tie as tie
 
 abbrev Inv-loop : tie.InvT-loop
-Inv-loop w packets batch threshold out₀ left₀ marks₀ i₀ out left marks i = Filling (lostAt w) batch threshold packets out₀ out left marks i
+Inv-loop w packets batch threshold out₀ left₀ marks₀ i₀ out left marks i = Filling (oneIn w) batch threshold packets out₀ out left marks i
 
 abbrev μ-loop : tie.MeasureT-loop
 μ-loop w packets batch threshold out₀ left₀ marks₀ i₀ out left marks i = packets - i
@@ -28,7 +28,7 @@ turned : (c : tie.After-fill-word Inv-loop μ-loop) →
     let a = c .before .before .before .before .before .before .args in
     let l = c .before .before .before .loop in
     let r = c .fill-word .result in
-    Filling (lostAt (a .w .now)) (a .batch) (a .threshold) (a .packets) (a .out .now) (c .fill-word .last .1 .1 .1 .1 .0) (r .left) (l .marks + r .marks) (l .i + wordBits)
+    Filling (oneIn (a .w .now)) (a .batch) (a .threshold) (a .packets) (a .out .now) (c .fill-word .last .1 .1 .1 .1 .0) (r .left) (l .marks + r .marks) (l .i + wordBits)
 turned c = onward _ _ _ _ _ _ _ _ _ (c .before .before .before .loop .inv) _ _ _ _ (omega arith) (c .fill-word .ensures)
 
 add-marks : tie.Need-add-marks Inv-loop μ-loop
@@ -51,7 +51,7 @@ whole : (c : tie.After-fill-each Inv-loop μ-loop) →
     let a = c .before .before .before .before .before .before .args in
     let l = c .before .before .before .loop in
     let r = c .fill-each .result in
-    Filling (lostAt (a .w .now)) (a .batch) (a .threshold) (a .packets) (a .out .now) (c .fill-each .last .1 .1 .1 .1 .0) (r .left) (l .marks + r .marks) (a .packets)
+    Filling (oneIn (a .w .now)) (a .batch) (a .threshold) (a .packets) (a .out .now) (c .fill-each .last .1 .1 .1 .1 .0) (r .left) (l .marks + r .marks) (a .packets)
 whole c = onward _ _ _ _ _ _ _ _ _ (c .before .before .before .loop .inv) _ _ _ _ (c .before .before .before .loop .inv .within) (c .fill-each .ensures)
 
 add-result : tie.Need-add-result Inv-loop μ-loop

@@ -11,7 +11,7 @@ use Rattle.resend.specs.Plans.{marked}
 use Rattle.resend.specs.Greedy.{planOf}
 use Rattle.resend.specs.Steps.{Filling}
 use Rattle.resend.proofs.Filling.{filling-length, filling-small, slid-some, slid-small, marks-lost, enters-any}
-use Rattle.packed.specs.Words.{wordBits, lostAt, numberOf}
+use Rattle.packed.specs.Words.{wordBits, oneIn, numberOf}
 use Rattle.packed_plan.specs.Steps.{behind}
 use Rattle.packed_plan.proofs.Leaving.{bit-here, later}
 use Rattle.packed_plan.proofs.fill_each.Statement.{statement}
@@ -19,9 +19,9 @@ use Rattle.packed_plan.proofs.fill_each.Tie as tie
 
 abbrev Inv-loop : tie.InvT-loop
 Inv-loop w packets batch threshold out₀ i end running enters₀ leaves₀ left₀ marks₀ next₀ out enters leaves left marks next =
-    Filling (lostAt w) batch threshold packets out₀ out left (count (marked (planOf (lostAt w) batch threshold packets)) 0 i + marks) next
+    Filling (oneIn w) batch threshold packets out₀ out left (count (marked (planOf (oneIn w) batch threshold packets)) 0 i + marks) next
     × (i ≤ next) × (next ≤ end)
-    × (enters ≡ numberOf (lostAt w) i wordBits / 2 ^ (next - i)) × (leaves ≡ numberOf (behind (lostAt w) batch) i wordBits / 2 ^ (next - i))
+    × (enters ≡ numberOf (oneIn w) i wordBits / 2 ^ (next - i)) × (leaves ≡ numberOf (behind (oneIn w) batch) i wordBits / 2 ^ (next - i))
 
 abbrev μ-loop : tie.MeasureT-loop
 μ-loop w packets batch threshold out₀ i end running enters₀ leaves₀ left₀ marks₀ next₀ out enters leaves left marks next = end - next
@@ -36,7 +36,7 @@ loop-holds : tie.Need-loop-holds Inv-loop μ-loop
 loop-holds c =
     let s = c .before .before .before .before in
     let none : s .args .i - s .args .i ≡ 0 = omega arith in
-    (rw (add-zero (count (marked (planOf (lostAt (s .args .w .now)) (s .args .batch) (s .args .threshold) (s .args .packets))) 0 (s .args .i))) (s .pre .0), omega arith, s .pre .2, rw (none, div-one (numberOf (lostAt (s .args .w .now)) (s .args .i) wordBits)) (c .before .window .ensures), rw (none, div-one (numberOf (behind (lostAt (s .args .w .now)) (s .args .batch)) (s .args .i) wordBits)) (c .gone .ensures))
+    (rw (add-zero (count (marked (planOf (oneIn (s .args .w .now)) (s .args .batch) (s .args .threshold) (s .args .packets))) 0 (s .args .i))) (s .pre .0), omega arith, s .pre .2, rw (none, div-one (numberOf (oneIn (s .args .w .now)) (s .args .i) wordBits)) (c .before .window .ensures), rw (none, div-one (numberOf (behind (oneIn (s .args .w .now)) (s .args .batch)) (s .args .i) wordBits)) (c .gone .ensures))
 
 -- the buffer is as long as it was, and both words are behind as many steps
 long : (c : tie.At-loop Inv-loop μ-loop) → length (c .loop .out) ≡ length (c .before .before .before .before .before .args .out .now)
@@ -46,16 +46,16 @@ steps : (c : tie.In-loop Inv-loop μ-loop) → (c .before .loop .next - c .befor
 steps c = let inv = c .before .loop .inv in let pre = c .before .before .before .before .before .before .pre in (omega (arith, inv .1, pre .4), omega (arith, inv .1))
 
 -- the bits of packet `next`
-leaves-now : (c : tie.In-loop Inv-loop μ-loop) → c .before .loop .leaves % 2 ≡ bit (behind (lostAt (c .before .before .before .before .before .before .args .w .now)) (c .before .before .before .before .before .before .args .batch) (c .before .loop .next))
+leaves-now : (c : tie.In-loop Inv-loop μ-loop) → c .before .loop .leaves % 2 ≡ bit (behind (oneIn (c .before .before .before .before .before .before .args .w .now)) (c .before .before .before .before .before .before .args .batch) (c .before .loop .next))
 leaves-now c =
     let a = c .before .before .before .before .before .before .args in
-    bit-here (behind (lostAt (a .w .now)) (a .batch)) (a .i) (c .before .loop .next - a .i) _ (steps c .0) (c .before .loop .inv .4)
-    ∙ ap (λ (k : ℕ). bit (behind (lostAt (a .w .now)) (a .batch) k)) (steps c .1)
+    bit-here (behind (oneIn (a .w .now)) (a .batch)) (a .i) (c .before .loop .next - a .i) _ (steps c .0) (c .before .loop .inv .4)
+    ∙ ap (λ (k : ℕ). bit (behind (oneIn (a .w .now)) (a .batch) k)) (steps c .1)
 
-enters-now : (c : tie.In-loop Inv-loop μ-loop) → c .before .loop .enters % 2 ≡ bit (lostAt (c .before .before .before .before .before .before .args .w .now) (c .before .loop .next))
+enters-now : (c : tie.In-loop Inv-loop μ-loop) → c .before .loop .enters % 2 ≡ bit (oneIn (c .before .before .before .before .before .before .args .w .now) (c .before .loop .next))
 enters-now c =
     let a = c .before .before .before .before .before .before .args in
-    bit-here (lostAt (a .w .now)) (a .i) (c .before .loop .next - a .i) _ (steps c .0) (c .before .loop .inv .3) ∙ ap (λ (k : ℕ). bit (lostAt (a .w .now) k)) (steps c .1)
+    bit-here (oneIn (a .w .now)) (a .i) (c .before .loop .next - a .i) _ (steps c .0) (c .before .loop .inv .3) ∙ ap (λ (k : ℕ). bit (oneIn (a .w .now) k)) (steps c .1)
 
 slide-requires : tie.Need-slide-requires Inv-loop μ-loop
 slide-requires c κs =
@@ -81,8 +81,8 @@ turned : (c : tie.After-least Inv-loop μ-loop) →
     let l = c .before .before .before .before .loop in
     let mark = c .before .slide .result + l .enters % 2 - c .least .result in
     (mark ≤ 1)
-    × Filling (lostAt (a .w .now)) (a .batch) (a .threshold) (a .packets) (a .out .now) (set (l .out) (l .next) mark) (c .least .result)
-    (count (marked (planOf (lostAt (a .w .now)) (a .batch) (a .threshold) (a .packets))) 0 (a .i) + l .marks + mark) (l .next + 1)
+    × Filling (oneIn (a .w .now)) (a .batch) (a .threshold) (a .packets) (a .out .now) (set (l .out) (l .next) mark) (c .least .result)
+    (count (marked (planOf (oneIn (a .w .now)) (a .batch) (a .threshold) (a .packets))) 0 (a .i) + l .marks + mark) (l .next + 1)
 turned c =
     let s = c .before .before .before .before .before .before .before .before .before in
     enters-any _ _ _ _ _ _ _ _ _ (c .before .before .before .before .loop .inv .0) _ (c .before .slide .ensures) (omega (arith, s .pre .3)) _ _ (enters-now (c .before .before .before)) (c .least .ensures)
@@ -115,8 +115,8 @@ loop-again c =
       rw (← add-assoc _ (l .marks) (c .before .slide .result + l .enters % 2 - c .least .result)) (turned c .1),
       omega (arith, l .inv .1),
       omega arith,
-      later (lostAt (s .args .w .now)) (s .args .i) (l .next) _ (l .inv .1) (l .inv .3),
-      later (behind (lostAt (s .args .w .now)) (s .args .batch)) (s .args .i) (l .next) _ (l .inv .1) (l .inv .4),
+      later (oneIn (s .args .w .now)) (s .args .i) (l .next) _ (l .inv .1) (l .inv .3),
+      later (behind (oneIn (s .args .w .now)) (s .args .batch)) (s .args .i) (l .next) _ (l .inv .1) (l .inv .4),
     )
 
 same-length : tie.Need-same-length Inv-loop μ-loop

@@ -8,23 +8,23 @@ use Rattle.trace.specs.Sum.{count}
 use Rattle.trace.proofs.Sums.{count-most}
 use Rattle.resend.specs.Plans.{marked, left}
 use Rattle.resend.specs.Greedy.{planOf}
-use Rattle.packed.specs.Words.{wordBits, lostAt}
+use Rattle.packed.specs.Words.{wordBits, oneIn}
 use Rattle.packed_plan.proofs.Strides.{length-cleared, passed-few, passed-none, Left, passed-left}
 use Rattle.packed_plan.proofs.fill_word.Statement.{statement}
 use Rattle.packed_plan.proofs.fill_word.Tie as tie
 
-lost-among-requires : tie.Need-lost-among-requires
-lost-among-requires c κs = search needs
+ones-among-requires : tie.Need-ones-among-requires
+ones-among-requires c κs = search needs
 
 -- what is left among the last packets is no more than they are
 small : (c : tie.Start) → c .args .left ≤ c .args .i
-small c = let a = c .args in omega (arith, c .pre .0 .window, count-most (left (lostAt (a .w .now)) (planOf (lostAt (a .w .now)) (a .batch) (a .threshold) (a .packets))) 0 (a .i))
+small c = let a = c .args in omega (arith, c .pre .0 .window, count-most (left (oneIn (a .w .now)) (planOf (oneIn (a .w .now)) (a .batch) (a .threshold) (a .packets))) 0 (a .i))
 
-enters : (c : tie.After-lost-among) → c .lost-among .result ≡ count (lostAt (c .before .before .before .args .w .now)) (c .before .before .before .args .i) wordBits
-enters c = c .lost-among .ensures
+enters : (c : tie.After-ones-among) → c .ones-among .result ≡ count (oneIn (c .before .before .before .args .w .now)) (c .before .before .before .args .i) wordBits
+enters c = c .ones-among .ensures
 
 add-if1 : tie.Need-add-if1
-add-if1 c = omega (arith, small (c .before .before .before), enters c, count-most (lostAt (c .before .before .before .args .w .now)) (c .before .before .before .args .i) wordBits, c .before .before .before .pre .1)
+add-if1 c = omega (arith, small (c .before .before .before), enters c, count-most (oneIn (c .before .before .before .args .w .now)) (c .before .before .before .args .i) wordBits, c .before .before .before .pre .1)
 
 add-fill-each : tie.Need-add-fill-each
 add-fill-each c = search needs
@@ -62,8 +62,8 @@ less-requires-2 c κs = search needs
 sub-n : tie.Need-sub-n
 sub-n c = search needs
 
-lost-among-requires-2 : tie.Need-lost-among-requires-2
-lost-among-requires-2 c κs = search needs
+ones-among-requires-2 : tie.Need-ones-among-requires-2
+ones-among-requires-2 c κs = search needs
 
 -- where what leaves begins, and how far it goes
 where-from : (c : tie.After-less2) → let a = c .before .before .before .before .before .before .before .before .before .before .before .args in (c .before .less .result ≡ a .i - a .batch) × (c .less2 .result ≡ a .i + wordBits - a .batch)
@@ -82,17 +82,17 @@ marks-among-requires c κs =
 -- what is left behind the word
 behind-left : (c : tie.After-marks-among) →
     let a = c .before .before .before .before .before .before .before .before .before .before .before .before .before .before .args in
-    let gone = c .before .before .lost-among2 .result in
+    let gone = c .before .before .ones-among2 .result in
     (c .marks-among .result ≤ gone)
-    × Left (lostAt (a .w .now)) (a .batch) (a .threshold) (a .packets) (a .out .now) (c .before .before .before .before .before .before .before .before .clear .last .0) (a .left)
-    (count (marked (planOf (lostAt (a .w .now)) (a .batch) (a .threshold) (a .packets))) 0 (a .i)) (c .before .before .before .before .before .before .before .before .before .before .before .lost-among .result) (a .i + wordBits) (gone - c .marks-among .result)
+    × Left (oneIn (a .w .now)) (a .batch) (a .threshold) (a .packets) (a .out .now) (c .before .before .before .before .before .before .before .before .clear .last .0) (a .left)
+    (count (marked (planOf (oneIn (a .w .now)) (a .batch) (a .threshold) (a .packets))) 0 (a .i)) (c .before .before .before .before .before .before .before .before .before .before .before .ones-among .result) (a .i + wordBits) (gone - c .marks-among .result)
 behind-left c =
     let s = c .before .before .before .before .before .before .before .before .before .before .before .before .before .before in
     let from = where-from (c .before .before .before) in
     let m : ℕ = c .before .before .before .less2 .result - c .before .before .before .before .less .result in
     let few : min m wordBits ≡ m = omega (arith, from) in
     passed-left _ _ _ _ _ _ _ _ _ _ _ (s .pre .0) (s .pre .2) (enters (c .before .before .before .before .before .before .before .before .before .before .before)) (omega arith) (c .before .before .before .before .before .before .before .before .clear .ensures) (c .before .before .before .before .less .result) m _ _ (from .0) (omega (arith, from))
-    (c .before .before .lost-among2 .ensures ∙ ap (count (lostAt (s .args .w .now)) (c .before .before .before .before .less .result)) few) (c .marks-among .ensures)
+    (c .before .before .ones-among2 .ensures ∙ ap (count (oneIn (s .args .w .now)) (c .before .before .before .before .less .result)) few) (c .marks-among .ensures)
 
 sub-leaves : tie.Need-sub-leaves
 sub-leaves c = behind-left c .0
@@ -113,7 +113,7 @@ pub fill-word-spec : {M : Type 1} → statement M
 fill-word-spec =
     tie.close
     (tie.spec
-    lost-among-requires
+    ones-among-requires
     add-if1
     add-fill-each
     fill-each-requires
@@ -127,7 +127,7 @@ fill-word-spec =
     add-less
     less-requires-2
     sub-n
-    lost-among-requires-2
+    ones-among-requires-2
     marks-among-requires
     sub-leaves
     add-t12

@@ -2,7 +2,7 @@
 use Prim.Native.Nat.{ℕ, _-_, _*_, _%_, _^_}
 use mathlib.Core.Path.{ap, _∙_}
 use native.Mathlib.Omega.{arith}
-use Rattle.packed.specs.Words.{lostAt}
+use Rattle.packed.specs.Words.{oneIn}
 use Rattle.packed_plan.proofs.Leaving.{gone-all, gone-none, gone-some}
 use borrow.Author.Needs.{needs}
 use Rattle.packed_plan.proofs.gone.Statement.{statement}
@@ -27,7 +27,7 @@ shl-result : tie.Need-shl-result
 shl-result c = search needs
 
 returns-3 : tie.Need-returns-3
-returns-3 c = let a = c .before .before .before .before .args in ap (λ (x : ℕ). x * 2 ^ (a .batch - a .i) % 2 ^ 64) (c .window2 .ensures) ∙ gone-some (lostAt (a .w .now)) (a .batch) (a .i) (omega arith) (omega arith)
+returns-3 c = let a = c .before .before .before .before .args in ap (λ (x : ℕ). x * 2 ^ (a .batch - a .i) % 2 ^ 64) (c .window2 .ensures) ∙ gone-some (oneIn (a .w .now)) (a .batch) (a .i) (omega arith) (omega arith)
 
 pub gone-spec : {M : Type 1} → statement M
 gone-spec =

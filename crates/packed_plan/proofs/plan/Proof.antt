@@ -14,10 +14,10 @@ use Rattle.resend.specs.Greedy.{planOf}
 use Rattle.resend.specs.Answer.{Plannable}
 use Rattle.resend.proofs.Answering.{promised, refused, too-short, planned}
 use Rattle.resend.proofs.Same.{same-plan}
-use Rattle.packed.specs.Words.{lostAt}
+use Rattle.packed.specs.Words.{oneIn}
 use Rattle.packed.specs.Judging.{judgedPacked}
 use Rattle.packed.proofs.Laws.{accepted-packed}
-use Rattle.packed.proofs.Windows.{lost-needed}
+use Rattle.packed.proofs.Windows.{one-needed}
 use borrow.Author.Needs.{needs}
 use Rattle.packed_plan.proofs.plan.Statement.{statement}
 use Rattle.packed_plan.proofs.plan.Tie as tie
@@ -65,9 +65,9 @@ returns-2 c =
     let a = c .before .before .before .before .before .before .before .before .before .before .before .before .args in
     let room = asked (c .before .before .before .before .before) in
     let is = c .before .before .before .before .needed .ensures in
-    let plan-is = ap (λ (w : List ℕ). planOf (lostAt w) (a .batch) (a .threshold) (a .packets)) is in
+    let plan-is = ap (λ (w : List ℕ). planOf (oneIn w) (a .batch) (a .threshold) (a .packets)) is in
     let made = planned _ _ _ _ _ _ _ _ room (c .before .before .fill .ensures .0 ∙ ap marks plan-is) (c .before .before .fill .ensures .1 ∙ ap (λ (p : List ℕ). p ++ drop (a .packets) (a .out .now)) plan-is) in
-    let same = same-plan (judgedPacked (a .words .now) (a .packets)) _ (lostAt (a .words .now)) (a .packets) (a .batch) (a .threshold) (a .out .now) (lost-needed (a .words .now) (a .packets)) in
+    let same = same-plan (judgedPacked (a .words .now) (a .packets)) _ (oneIn (a .words .now)) (a .packets) (a .batch) (a .threshold) (a .out .now) (one-needed (a .words .now) (a .packets)) in
     promised _ _ _ _ _ _ _ _ (made .0 ∙ same .0) (made .1 .0 ∙ same .1)
 
 returns-3 : tie.Need-returns-3

@@ -4,7 +4,7 @@ use mathlib.Core.Path.{_≡_}
 use native.Mathlib.Omega.{arith}
 use lib.ListN.{getD}
 use Rattle.trace.proofs.Sums.{bit-le}
-use Rattle.packed.specs.Words.{lostAt}
+use Rattle.packed.specs.Words.{oneIn}
 use Rattle.resend.specs.Steps.{leaving}
 use Rattle.packed_plan.specs.Steps.{behind}
 use Rattle.packed_plan.proofs.Leaving.{slides-by, slides-lost}
@@ -18,10 +18,10 @@ returns c = slides-by _ _ _ _ (c .before .pre .4) _ (omega (arith, c .before .pr
 -- a lost packet leaves
 gone : (c : tie.Else1) →
     let a = c .before .args in
-    (a .batch ≤ a .i) × (getD (a .plan .now) (a .i - a .batch) 0 ≤ 1) × (leaving (lostAt (a .w .now)) (a .batch) (a .plan .now) (a .i) ≡ 1 - getD (a .plan .now) (a .i - a .batch) 0)
+    (a .batch ≤ a .i) × (getD (a .plan .now) (a .i - a .batch) 0 ≤ 1) × (leaving (oneIn (a .w .now)) (a .batch) (a .plan .now) (a .i) ≡ 1 - getD (a .plan .now) (a .i - a .batch) 0)
 gone c =
     let a = c .before .args in
-    slides-lost (lostAt (a .w .now)) (a .batch) (a .plan .now) (a .i) (c .before .pre .4) (omega (arith, c .before .pre .2, bit-le (behind (lostAt (a .w .now)) (a .batch) (a .i))))
+    slides-lost (oneIn (a .w .now)) (a .batch) (a .plan .now) (a .i) (c .before .pre .4) (omega (arith, c .before .pre .2, bit-le (behind (oneIn (a .w .now)) (a .batch) (a .i))))
 
 sub-at : tie.Need-sub-at
 sub-at c = gone c .0
