@@ -1,14 +1,14 @@
 // Effective loss: document 002 and document 01, "Effective loss". Batches are all runs of B consecutive packets;
-// the answer says how many of them lost more than T, and which is the first.
+// the answer says how many of them hold more than T losses, and which is the first. A loss is what the event counts.
 use refusal::Judged;
 use refusal::Refusal;
 use trace::Event;
+use trace::counted;
 ghost use mathlib.Core.Path.{_≡_};
 ghost use Prim.Native.Nat.{ℕ, _+_, _-_, _<_, _≤_, min};
 ghost use lib.ListN.{length};
-ghost use Rattle.trace.specs.declared.Event.the-variants.{Lost};
-ghost use Rattle.trace.specs.Sum.{bit, count};
-ghost use Rattle.trace.specs.Trace.{countsAs, countedAt, judged, traceMax};
+ghost use Rattle.trace.specs.Sum.{count};
+ghost use Rattle.trace.specs.Trace.{countedAt, judged, traceMax};
 ghost use Rattle.batch.specs.Judging.{judgedFor};
 ghost use Rattle.batch.specs.declared.First.the-variants.{At};
 ghost use Rattle.batch.specs.Batches.{lossesIn, isOver, overCount, firstOver};
@@ -54,13 +54,13 @@ pub enum LossRead {
     Refused(Refusal),
 }
 
-// The effective loss of a trace.
-pub fn effective_loss(trace: &[u8], batch: u32, threshold: u32) -> LossRead
-    ensures { λ r. ⌜ r ≡ lossAnswer (judged (now (trace .entry))) (countedAt Lost (now (trace .entry))) (length (now (trace .entry))) batch threshold ⌝ }
+// The effective loss of a trace, with the packets that the event counts as its losses.
+pub fn effective_loss(trace: &[u8], batch: u32, threshold: u32, event: Event) -> LossRead
+    ensures { λ r. ⌜ r ≡ lossAnswer (judged (now (trace .entry))) (countedAt event (now (trace .entry))) (length (now (trace .entry))) batch threshold ⌝ }
 {
     match judge(trace, batch, threshold) {
         Judged::Accepted => {
-            LossRead::Loss(loss_of(Event::Lost, trace, batch as usize, threshold as usize))
+            LossRead::Loss(loss_of(event, trace, batch as usize, threshold as usize))
         }
         Judged::Refused(r) => LossRead::Refused(r),
     }
@@ -277,11 +277,4 @@ fn losses_among(event: Event, s: &[u8], i: usize, n: usize) -> usize
         j += 1;
     }
     losses as usize
-}
-
-// 1 for a counted packet and 0 for any other.
-fn counted(event: Event, packet: u8) -> usize
-    ensures { λ r. ⌜ r ≡ bit (countsAs event packet) ⌝ }
-{
-    trace::counts(event, packet) as usize
 }

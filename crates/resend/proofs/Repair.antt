@@ -8,11 +8,11 @@ use native.Mathlib.Omega.{arith}
 use native.Mathlib.Nat.{zero-mul, zero-div}
 use lib.ListN.{length, getD}
 use Rattle.trace.specs.declared.Event.{Event}
-use Rattle.trace.specs.declared.Event.the-variants.{Lost, Discarded}
 use Rattle.trace.specs.Sum.{bit}
 use Rattle.trace.specs.Trace.{received, packetMax, countsAs, countedAt, judged}
 use Rattle.trace.specs.Laws.{IsTrace}
 use Rattle.trace.proofs.Sums.{sum-same}
+use Rattle.trace.proofs.Events.{received-uncounted}
 use Rattle.trace.proofs.Judging.{accepted-trace, trace-accepted}
 use Rattle.batch.specs.declared.First.the-variants.{None}
 use Rattle.batch.specs.Batches.{batches, lossesIn, overCount}
@@ -37,12 +37,6 @@ resent-at [] p i h = absurd (omega arith)
 resent-at (packet ∷ s) [] i h = refl
 resent-at (packet ∷ s) (mark ∷ p) zero h = refl
 resent-at (packet ∷ s) (mark ∷ p) (suc i) h = resent-at s p i (omega arith)
-
--- no event counts a packet received
-received-uncounted : (event : Event) → countsAs event received ≡ false
-unfolding countsAs
-received-uncounted Lost = refl
-received-uncounted Discarded = refl
 
 -- what counts in a resent trace is what the plan leaves
 resent-left : (event : Event) (s p : List ℕ) (i : ℕ) → i < length s → countedAt event (resent s p) i ≡ left (countedAt event s) p i

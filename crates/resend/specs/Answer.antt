@@ -1,6 +1,6 @@
 -- What the call answers and how it leaves the lent buffer: document 01, "The plan fills one byte for each packet
 -- of the trace, 1 to resend and 0 otherwise, and its answer carries the count. Further bytes of the buffer keep
--- what they held", with the order line "Traces: 15, 10, 9, 14, 8". The verdict on the input, which packets are lost
+-- what they held", with the order line "Traces: 15, 10, 9, 14, 8". The verdict on the input, which packets count
 -- and their number, e, are parameters.
 use Prim.Native.Nat.{ℕ, _≤_}
 use mathlib.Core.Path.{_≡_}

@@ -1,4 +1,4 @@
--- The plan that is answered, packet by packet: a lost packet is marked exactly when t unmarked losses already
+-- The plan that is answered, packet by packet: a loss is marked exactly when t unmarked losses already
 -- stand among the b - 1 packets before it. That it is demand 3's plan is the law `Plan-best`.
 use Prim.Native.Nat.{ℕ, zero, suc, _-_}
 use mathlib.Core.Bool.{Bool, _&&_}

@@ -1,5 +1,6 @@
--- Plans: demand 3 and document 01, "Words of demand 3". Throughout, `lost i` says whether packet i counts as
--- lost, e is the number of packets, b the batch and t the threshold; batches are those of effective loss.
+-- Plans: demand 3 and document 01, "Words of demand 3", where document 02, ticket 7, "reads "counted packets" for "lost
+-- packets" and for "losses"". Throughout, `lost i` says whether packet i counts, e is the number of packets, b the batch
+-- and t the threshold; batches are those of effective loss.
 use Prim.Native.Nat.{ℕ, _<_, _≤_}
 use mathlib.Core.Path.{_≡_}
 use mathlib.Core.Bool.{Bool, true, cond, _&&_, not}

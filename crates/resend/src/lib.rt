@@ -9,7 +9,6 @@ ghost use mathlib.Core.Path.{_≡_};
 ghost use mathlib.Core.List.{_++_};
 ghost use Prim.Native.Nat.{_-_, _<_, _≤_, min};
 ghost use lib.ListN.{length, getD, drop};
-ghost use Rattle.trace.specs.declared.Event.the-variants.{Lost};
 ghost use Rattle.trace.specs.Sum.{bit};
 ghost use Rattle.trace.specs.Trace.{countedAt, judged};
 ghost use Rattle.resend.specs.Plans.{marks};
@@ -23,21 +22,36 @@ pub enum Planned {
     Refused(Refusal),
 }
 
-// Writes the plan of a trace into the front of out. The clause `best` is demand 3 by itself: wherever it is asked, the
-// front is its plan, the answer is the number of its marks, and the further bytes are as they were.
-pub fn plan(trace: &[u8], batch: u32, threshold: u32, out: &mut [u8]) -> Planned
-    ensures answer { λ r. ⌜ r ≡ planAnswer (judged (now (trace .entry))) (countedAt Lost (now (trace .entry))) (length (now (trace .entry))) batch threshold (now (out .entry)) ⌝ }
-    ensures buffer { λ r. ⌜ now (out .exit) ≡ bufferAfter (judged (now (trace .entry))) (countedAt Lost (now (trace .entry))) (length (now (trace .entry))) batch threshold (now (out .entry)) ⌝ }
-    ensures best { λ r. ⌜ (Plannable (judged (now (trace .entry))) (length (now (trace .entry))) batch threshold (now (out .entry)) → PlannedBest (countedAt Lost (now (trace .entry))) (length (now (trace .entry))) batch threshold (now (out .entry)) r (now (out .exit))) ⌝ }
+// Writes the plan of a trace, which marks packets that the event counts, into the front of out. The clause `best` is
+// demand 3 by itself: wherever it is asked, the front is its plan, the answer is the number of its marks, and the further
+// bytes are as they were.
+pub fn plan(trace: &[u8], batch: u32, threshold: u32, event: Event, out: &mut [u8]) -> Planned
+    ensures answer { λ r. ⌜ r ≡ planAnswer (judged (now (trace .entry))) (countedAt event (now (trace .entry))) (length (now (trace .entry))) batch threshold (now (out .entry)) ⌝ }
+    ensures buffer { λ r. ⌜ now (out .exit) ≡ bufferAfter (judged (now (trace .entry))) (countedAt event (now (trace .entry))) (length (now (trace .entry))) batch threshold (now (out .entry)) ⌝ }
+    ensures best { λ r. ⌜ (Plannable (judged (now (trace .entry))) (length (now (trace .entry))) batch threshold (now (out .entry)) → PlannedBest (countedAt event (now (trace .entry))) (length (now (trace .entry))) batch threshold (now (out .entry)) r (now (out .exit))) ⌝ }
 {
     match judge(trace, batch, threshold) {
         Judged::Accepted => {
             if out.len() < trace.len() {
                 return Planned::Refused(refusal::BUFFER_SHORT);
             }
-            Planned::Marks(fill(Event::Lost, trace, batch as usize, threshold as usize, out))
+            Planned::Marks(fill_for(event, trace, batch as usize, threshold as usize, out))
         }
         Judged::Refused(r) => Planned::Refused(r),
+    }
+}
+
+// The plan by an event, and the number of its marks: the loop is compiled for each event by itself, and does not ask at every packet
+// what is counted.
+fn fill_for(event: Event, s: &[u8], batch: usize, threshold: usize, out: &mut [u8]) -> usize
+    requires { ⌜ (1 ≤ batch) × (length (now s) ≤ length (now out)) ⌝ }
+    ensures count { λ r. ⌜ r ≡ marks (planOf (countedAt event (now (s .entry))) batch threshold (length (now (s .entry)))) ⌝ }
+    ensures buffer { λ r. ⌜ now (out .exit) ≡ planOf (countedAt event (now (s .entry))) batch threshold (length (now (s .entry))) ++ drop (length (now (s .entry))) (now (out .entry)) ⌝ }
+{
+    match event {
+        Event::Lost => fill(Event::Lost, s, batch, threshold, out),
+        Event::Discarded => fill(Event::Discarded, s, batch, threshold, out),
+        Event::Either => fill(Event::Either, s, batch, threshold, out),
     }
 }
 

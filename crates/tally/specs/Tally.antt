@@ -1,6 +1,6 @@
 -- The tally: document 01, "The trace and its figures". "A tally is opened with Gmin, spacing and the kind of
--- event it counts, lost or discarded. It takes packets one after another .. Closing it gives the figures." The
--- order line is "Tallies: 15, 10, 9"; a refused packet leaves the tally as given.
+-- event it counts, lost or discarded. It takes packets one after another .. Closing it gives the figures." By document
+-- 02, ticket 7, it may count either. The order line is "Tallies: 15, 10, 9"; a refused packet leaves the tally as given.
 use Prim.Native.Nat.{ℕ, _+_}
 use mathlib.Core.Bool.{Bool, cond, _&&_}
 use mathlib.Core.List.{List, [], _∷_}

@@ -1,4 +1,4 @@
+pub mod Sum
 pub mod Trace
 pub mod Events
-pub mod Sum
 pub mod Laws

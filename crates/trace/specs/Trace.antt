@@ -1,14 +1,16 @@
 -- A trace: document 01, "The trace and its figures". "One byte a packet: 0 received, 1 lost, 2 discarded.
--- From 1 to 65,536 packets." What a call counts is a parameter, the event.
+-- From 1 to 65,536 packets." What a call counts is a parameter, the event: document 02, ticket 7, "the caller chooses
+-- what counts as a loss: lost only, discarded only, or either".
 use Prim.Native.Nat.{ℕ, suc}
-use mathlib.Core.Bool.{Bool, cond, _&&_}
-use mathlib.Core.List.{List, [], _∷_}
+use mathlib.Core.Bool.{Bool, cond, _&&_, _||_}
+use mathlib.Core.List.{List, [], _∷_, map}
 use lib.Dec.{eqb, leb}
 use lib.ListN.{length, getD}
 use Rattle.refusal.specs.Table.{traceLength, traceByte}
 use Rattle.refusal.specs.Answer.{unless}
+use Rattle.trace.specs.Sum.{bit}
 use Rattle.trace.specs.declared.Event.{Event}
-use Rattle.trace.specs.declared.Event.the-variants.{Lost, Discarded}
+use Rattle.trace.specs.declared.Event.the-variants.{Lost, Discarded, Either}
 use Rattle.refusal.specs.declared.Judged.{Judged}
 use Rattle.refusal.specs.declared.Judged.the-variants.{Accepted, Refused}
 
@@ -34,10 +36,15 @@ traceMax = 65_536
 unfoldable pub countsAs : Event → ℕ → Bool
 countsAs Lost packet = eqb packet lost
 countsAs Discarded packet = eqb packet discarded
+countsAs Either packet = eqb packet lost || eqb packet discarded
 
 -- whether packet i of a trace is counted
 abbrev pub countedAt : Event → List ℕ → ℕ → Bool
 countedAt event s i = countsAs event (getD s i 0)
+
+-- a trace with the counted packets as 1 and the others as 0
+abbrev pub flagged : Event → List ℕ → List ℕ
+flagged event s = map (λ packet. bit (countsAs event packet)) s
 
 -- "trace empty or over 65,536" is not so of so many packets, nor over another limit
 unfoldable pub packetsWithin : ℕ → ℕ → Bool

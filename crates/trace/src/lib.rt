@@ -5,11 +5,15 @@ ghost use mathlib.Core.Path.{_≡_};
 ghost use lib.Dec.{ltb};
 ghost use lib.ListN.{length};
 ghost use Rattle.trace.specs.Events.{eventIn, eventNumber};
+ghost use Rattle.trace.specs.Sum.{bit};
 ghost use Rattle.trace.specs.Trace.{countsAs, packetsWithin, firstAbove, judgedWithin, judged};
 
 pub const LOST: u8 = 1;
 
 pub const DISCARDED: u8 = 2;
+
+// The number of the event that counts both: lost and discarded together.
+pub const EITHER: u8 = LOST + DISCARDED;
 
 // The highest byte of a trace.
 pub const PACKET_MAX: u8 = 2;
@@ -19,10 +23,11 @@ pub const TRACE_MIN: usize = 1;
 
 pub const TRACE_MAX: usize = 65_536;
 
-// What a call counts. All other packets are to it as received.
+// What a call counts, by the caller's choice: document 02, ticket 7. All other packets are to it as received.
 pub enum Event {
     Lost,
     Discarded,
+    Either,
 }
 
 // An event by its number.
@@ -38,6 +43,7 @@ pub fn event_in(number: u32) -> EventRead
     match number {
         1 => EventRead::Known(Event::Lost),
         2 => EventRead::Known(Event::Discarded),
+        3 => EventRead::Known(Event::Either),
         _ => EventRead::Unknown,
     }
 }
@@ -49,6 +55,7 @@ pub fn event_number(event: Event) -> u32
     match event {
         Event::Lost => 1,
         Event::Discarded => 2,
+        Event::Either => 3,
     }
 }
 
@@ -59,7 +66,15 @@ pub fn counts(event: Event, packet: u8) -> bool
     match event {
         Event::Lost => packet == LOST,
         Event::Discarded => packet == DISCARDED,
+        Event::Either => (packet == LOST) | (packet == DISCARDED),
     }
+}
+
+// 1 for a counted packet and 0 for any other.
+pub fn counted(event: Event, packet: u8) -> usize
+    ensures { λ r. ⌜ r ≡ bit (countsAs event packet) ⌝ }
+{
+    counts(event, packet) as usize
 }
 
 // Judges a trace by its length and then by its bytes.

@@ -33,8 +33,8 @@ asked c = let f = fit _ _ _ _ (taken (c .before)) in record { accepted = f .good
 returns : tie.Need-returns
 returns c = too-short _ _ _ _ _ _ (taken (c .before)) (c .if1 .taken)
 
-fill-requires : tie.Need-fill-requires
-fill-requires c κs = (batch limits _ _ (asked (c .before) .range) .first .least, c .before .if1 .left)
+fill-for-requires : tie.Need-fill-for-requires
+fill-for-requires c κs = (batch limits _ _ (asked (c .before) .range) .first .least, c .before .if1 .left)
 
 enum-known-r : tie.Need-enum-known-r
 enum-known-r c = search needs
@@ -43,7 +43,7 @@ same-length : tie.Need-same-length
 same-length c = search needs
 
 returns-2 : tie.Need-returns-2
-returns-2 c = planned _ _ _ _ _ _ _ _ (asked (c .before .before .before .before)) (c .before .before .fill .ensures .0) (c .before .before .fill .ensures .1)
+returns-2 c = planned _ _ _ _ _ _ _ _ (asked (c .before .before .before .before)) (c .before .before .fill-for .ensures .0) (c .before .before .fill-for .ensures .1)
 
 returns-3 : tie.Need-returns-3
 returns-3 c = refused _ _ _ _ _ _ _ (sym (c .before .before .before .judge .ensures) ∙ c .before .r .given .1)
@@ -55,7 +55,7 @@ plan-spec =
     judge-requires
     enum-told
     returns
-    fill-requires
+    fill-for-requires
     enum-known-r
     same-length
     returns-2

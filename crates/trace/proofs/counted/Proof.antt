@@ -1,10 +1,10 @@
--- `batch::counted` meets its contract: the test as a bit. Assumes nothing.
+-- `trace::counted` meets its contract: the test as a bit. Assumes nothing.
 use mathlib.Core.Path.{ap, _∙_}
 use Rattle.trace.specs.Sum.{bit}
 use Rattle.trace.proofs.Sums.{bool-bit}
 use borrow.Author.Needs.{needs}
-use Rattle.batch.proofs.counted.Statement.{statement}
-use Rattle.batch.proofs.counted.Tie as tie
+use Rattle.trace.proofs.counted.Statement.{statement}
+use Rattle.trace.proofs.counted.Tie as tie
 
 counts-requires : tie.Need-counts-requires
 counts-requires c κs = search needs
