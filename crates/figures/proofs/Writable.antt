@@ -13,7 +13,7 @@ use Rattle.block.specs.declared.LossSummary.{LossSummary}
 use Rattle.block.specs.declared.DiscardSummary.{DiscardSummary}
 use Rattle.block.specs.declared.Block.the-variants.{Loss as Block·Loss, Discard as Block·Discard}
 use Rattle.trace.specs.declared.Event.{Event}
-use Rattle.trace.specs.declared.Event.the-variants.{Lost, Discarded}
+use Rattle.trace.specs.declared.Event.the-variants.{Lost, Discarded, Either}
 use Rattle.refusal.specs.declared.Judged.{Judged}
 use Rattle.refusal.specs.declared.Judged.the-variants.{Accepted as Judged·Accepted, Refused as Judged·Refused}
 use Rattle.trace.specs.Trace.{countsAs, judged}
@@ -92,12 +92,14 @@ module _ (source flag : ℕ) where
   from-lost Lost (Refused r) l e = let z : _≡_ {A = ℕ} 0 1 = cc in absurd (omega arith)
   from-lost Discarded (Accepted f) l e = let z : _≡_ {A = ℕ} 0 1 = cc in absurd (omega arith)
   from-lost Discarded (Refused r) l e = let z : _≡_ {A = ℕ} 0 1 = cc in absurd (omega arith)
+  from-lost Either m l e = let z : _≡_ {A = ℕ} 0 1 = cc in absurd (omega arith)
 
   from-discarded : (event : Event) (m : FiguresRead) (d : DiscardSummary) → summaryOf event source flag m ≡ Discard d → (event ≡ Discarded) × From m (λ f. discardBlock f source flag) d
   from-discarded Discarded (Accepted f) d e = (refl, record { figures = f; measured = refl; block = cc })
   from-discarded Discarded (Refused r) d e = let z : _≡_ {A = ℕ} 0 1 = cc in absurd (omega arith)
   from-discarded Lost (Accepted f) d e = let z : _≡_ {A = ℕ} 0 1 = cc in absurd (omega arith)
   from-discarded Lost (Refused r) d e = let z : _≡_ {A = ℕ} 0 1 = cc in absurd (omega arith)
+  from-discarded Either m d e = let z : _≡_ {A = ℕ} 0 1 = cc in absurd (omega arith)
 
 pub kind-right : Kind-right
 kind-right event source flag m = (

@@ -9,7 +9,7 @@ use Rattle.settings.specs.Ranges.{burstInRange}
 use Rattle.block.specs.declared.LossSummary.{LossSummary}
 use Rattle.block.specs.declared.DiscardSummary.{DiscardSummary}
 use Rattle.trace.specs.declared.Event.{Event}
-use Rattle.trace.specs.declared.Event.the-variants.{Lost, Discarded}
+use Rattle.trace.specs.declared.Event.the-variants.{Lost, Discarded, Either}
 use Rattle.trace.specs.Trace.{countsAs, judged}
 use Rattle.bursts.specs.declared.Figures.{Figures}
 use Rattle.bursts.specs.declared.FiguresRead.{FiguresRead}
@@ -39,12 +39,14 @@ abbrev pub discardBlock : Figures → ℕ → ℕ → DiscardSummary
 discardBlock f source flag =
     record { flag = flag; source = source; «burst_rate» = f .«burst_rate»; «gap_rate» = f .«gap_rate» }
 
--- "For block 17 the events are the lost packets, for block 18 the discarded"
-abbrev pub blockFor : Event → ℕ → ℕ → Figures → Summary
-blockFor Lost source flag f = Loss (lossBlock f source flag)
-blockFor Discarded source flag f = Discard (discardBlock f source flag)
-
 -- the block of what was measured, or its refusal
+abbrev pub measuredAs : (Figures → Summary) → FiguresRead → Summary
+measuredAs make (Accepted f) = make f
+measuredAs make (Refused r) = Summary·Refused r
+
+-- "For block 17 the events are the lost packets, for block 18 the discarded", and document 02, ticket 7: "Blocks 17 and 18 keep
+-- their own events." To a block, either is "a setting outside its range", 15, before anything else.
 abbrev pub summaryOf : Event → ℕ → ℕ → FiguresRead → Summary
-summaryOf event source flag (Accepted f) = blockFor event source flag f
-summaryOf event source flag (Refused r) = Summary·Refused r
+summaryOf Lost source flag m = measuredAs (λ f. Loss (lossBlock f source flag)) m
+summaryOf Discarded source flag m = measuredAs (λ f. Discard (discardBlock f source flag)) m
+summaryOf Either source flag m = Summary·Refused setting

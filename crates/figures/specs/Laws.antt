@@ -33,7 +33,7 @@ Trace-right =
     (gmin spacing : ℕ) (event : Event) (s : List ℕ) (f : Figures) → figuresIn gmin spacing event s ≡ Accepted f →
     Right (sumsOf (countsAs event) gmin spacing s) f × Uncut (sumsOf (countsAs event) gmin spacing s)
 
--- A 17 comes from the lost and an 18 from the discarded, with the figures that were measured.
+-- A 17 comes from the lost and an 18 from the discarded, with the figures that were measured; so no block comes from either.
 pub record LossMeasured (event : Event) (source flag : ℕ) (m : FiguresRead) (l : LossSummary) : Type 0 where
   pub lost : event ≡ Lost
   pub figures : Figures

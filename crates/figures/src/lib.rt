@@ -1,6 +1,6 @@
 // The figures of a whole trace in one call, and the blocks 17 and 18 that carry figures: document 01, "The trace
 // and its figures"; RFC 7004, sections 3.1 and 3.2. A block that was measured is made from its trace or its tally, so
-// that a 17 has the figures of lost packets and an 18 those of discarded ones.
+// that a 17 has the figures of lost packets and an 18 those of discarded ones, and no block those of either.
 use block::DiscardSummary;
 use block::LossSummary;
 use bursts::Figures;
@@ -47,7 +47,7 @@ pub fn discard_of_trace(trace: &[u8], gmin: u32, spacing: u32, source: u32, flag
     summary_of(Event::Discarded, source, flag, discarded)
 }
 
-// The block of a tally: 17 of one that counts lost packets, 18 of one that counts discarded ones.
+// The block of a tally: 17 of one that counts lost packets, 18 of one that counts discarded ones, none of one that counts either.
 pub fn of_tally(tally: Tally, source: u32, flag: u8) -> Summary
     ensures { λ r. ⌜ r ≡ summaryOf (tally .event) source flag (closeOf tally) ⌝ }
 {
@@ -59,12 +59,18 @@ pub fn of_tally(tally: Tally, source: u32, flag: u8) -> Summary
 fn summary_of(event: Event, source: u32, flag: u8, measured: FiguresRead) -> Summary
     ensures { λ r. ⌜ r ≡ summaryOf event source flag measured ⌝ }
 {
-    match measured {
-        FiguresRead::Accepted(figures) => match event {
-            Event::Lost => Summary::Loss(loss_block(figures, source, flag)),
-            Event::Discarded => Summary::Discard(discard_block(figures, source, flag)),
+    match event {
+        Event::Lost => match measured {
+            FiguresRead::Accepted(figures) => Summary::Loss(loss_block(figures, source, flag)),
+            FiguresRead::Refused(why) => Summary::Refused(why),
         },
-        FiguresRead::Refused(why) => Summary::Refused(why),
+        Event::Discarded => match measured {
+            FiguresRead::Accepted(figures) => {
+                Summary::Discard(discard_block(figures, source, flag))
+            }
+            FiguresRead::Refused(why) => Summary::Refused(why),
+        },
+        Event::Either => Summary::Refused(refusal::SETTING),
     }
 }
 
