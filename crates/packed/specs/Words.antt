@@ -1,5 +1,5 @@
--- A packed trace: document 02, ticket 6. "64-bit words, packet i in word i / 64 at bit i modulo 64, one meaning lost, bits past
--- the end zero." Throughout, `lost i` says whether packet i is lost.
+-- A packed trace: document 02, ticket 6. "64-bit words, packet i in word i / 64 at bit i modulo 64, .., bits past the end zero." By
+-- ticket 7 a one is a packet that counts as a loss. Throughout, `lost i` says whether packet i does.
 use Prim.Native.Nat.{ℕ, zero, suc, _+_, _*_, _/_, _%_, _^_}
 use mathlib.Core.Bool.{Bool}
 use mathlib.Core.List.{List, [], _∷_}
@@ -14,7 +14,7 @@ wordBits = 64
 unfoldable pub oneAt : ℕ → ℕ → Bool
 oneAt x j = eqb (x / 2 ^ j % 2) 1
 
--- packet i is lost
+-- packet i is a one
 unfoldable pub oneIn : List ℕ → ℕ → Bool
 oneIn words i = oneAt (getD words (i / wordBits) 0) (i % wordBits)
 

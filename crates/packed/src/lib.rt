@@ -1,4 +1,5 @@
-// A packed trace: document 02, ticket 6. 64-bit words, packet i in word i / 64 at bit i modulo 64, a one meaning lost.
+// A packed trace: document 02, tickets 6 and 7. 64-bit words, packet i in word i / 64 at bit i modulo 64, a one for each packet that
+// counts as a loss, by whatever choice the trace was packed.
 //
 //     word 0                               word 1
 //     bit 63 ..           bit 1   bit 0    bit 63 ..            bit 0
@@ -73,7 +74,7 @@ pub fn window(words: &[u64], i: usize) -> u64
     low | (words[word + 1] << (WORD - skipped))
 }
 
-// 1 for a lost packet, 0 for any other; past the words there is none.
+// 1 for a packet that is a one, 0 for any other; past the words there is none.
 pub fn one_in(words: &[u64], i: usize) -> usize
     ensures { λ r. ⌜ r ≡ bit (oneIn (now (words .entry)) i) ⌝ }
 {
@@ -87,7 +88,7 @@ pub fn ones(word: u64) -> usize
     u64::count_ones(word) as usize
 }
 
-// How many of the n packets from packet i on are lost, no more than a word of them.
+// How many of the n packets from packet i on are ones, no more than a word of them.
 pub fn ones_among(words: &[u64], i: usize, n: usize) -> usize
     ensures { λ r. ⌜ r ≡ count (oneIn (now (words .entry))) i (min n wordBits) ⌝ }
 {

@@ -188,7 +188,7 @@ fn settle(w: &[u64], packets: usize, batch: usize, threshold: usize, from: Runni
     settle_word(w, packets, batch, threshold, from)
 }
 
-// Where a batch holds no loss, the packets from packet i behind it up to this one are not lost.
+// Where a batch holds no loss, the packets from packet i behind it up to this one are no losses.
 fn clear_until(w: &[u64], packets: usize, i: usize, losses: usize) -> usize
     requires { ⌜ (packets ≤ traceMax) × (i ≤ packets) ⌝ }
     ensures { λ r. ⌜ (r ≤ packets) × (i < r → losses ≡ 0) × ((j : ℕ) → i ≤ j → j < r → oneIn (now (w .entry)) j ≡ false) ⌝ }
@@ -215,7 +215,7 @@ fn settle_word(w: &[u64], packets: usize, batch: usize, threshold: usize, from: 
     }
 }
 
-// Packets from packet i on up to this one, no further than the last, are not lost: whole words of them.
+// Packets from packet i on up to this one, no further than the last, are no losses: whole words of them.
 fn quiet_end(w: &[u64], packets: usize, i: usize) -> usize
     requires { ⌜ (packets ≤ traceMax) × (i ≤ packets) ⌝ }
     ensures { λ r. ⌜ (r ≤ packets) × ((j : ℕ) → i ≤ j → j < r → oneIn (now (w .entry)) j ≡ false) ⌝ }

@@ -9,7 +9,7 @@ use Rattle.resend.specs.Plans.{marked}
 use Rattle.resend.specs.Greedy.{planOf}
 use Rattle.resend.specs.Steps.{Filling}
 
--- a lost packet stands b before packet i
+-- a loss stands b before packet i
 unfoldable pub behind : (ℕ → Bool) → ℕ → ℕ → Bool
 behind lost b i = leb b i && lost (i - b)
 

@@ -41,7 +41,7 @@ pub fn plan(words: &[u64], packets: usize, batch: u32, threshold: u32, out: &mut
     }
 }
 
-// The plan of the lost packets, and the number of its marks.
+// The plan of the ones, and the number of its marks.
 fn fill(w: &[u64], packets: usize, batch: usize, threshold: usize, out: &mut [u8]) -> usize
     requires { ⌜ (1 ≤ batch) × (packets ≤ length (now out)) × (packets ≤ traceMax) ⌝ }
     ensures count { λ r. ⌜ r ≡ marks (planOf (oneIn (now (w .entry))) batch threshold packets) ⌝ }
@@ -90,7 +90,7 @@ fn fill_word(
     }
 }
 
-// The packets from packet i up to `end`, no more than a word of them, one by one. A lost packet is marked when `threshold` without a
+// The packets from packet i up to `end`, no more than a word of them, one by one. A loss is marked when `threshold` without a
 // mark already stand among the `batch` - 1 packets before it: with it they would be one more.
 fn fill_each(
     w: &[u64],
@@ -122,7 +122,7 @@ fn fill_each(
     Filled { left, marks }
 }
 
-// The running count without the packet that stands `batch` before packet i; `gone` says whether one does that is lost. Its mark is read
+// The running count without the packet that stands `batch` before packet i; `gone` says whether one does that is a loss. Its mark is read
 // only then: with a small batch it has just been written, and reading it at every packet would make each wait for the one before.
 fn slide(w: &[u64], plan: &[u8], batch: usize, i: usize, left: usize, gone: u64) -> usize
     requires { ⌜ (1 ≤ batch) × (i < length (now plan)) × (gone ≡ bit (behind (oneIn (now w)) batch i)) × (leaving (oneIn (now w)) batch (now plan) i ≤ left) × (batch ≤ i → getD (now plan) (i - batch) 0 ≤ bit (oneIn (now w) (i - batch))) ⌝ }
@@ -135,7 +135,7 @@ fn slide(w: &[u64], plan: &[u8], batch: usize, i: usize, left: usize, gone: u64)
     left - (1 - plan[at] as usize)
 }
 
-// Of the 64 packets from packet i on: whether a lost one stands `batch` before each, the first in the lowest bit.
+// Of the 64 packets from packet i on: whether a loss stands `batch` before each, the first in the lowest bit.
 fn gone(w: &[u64], batch: usize, i: usize) -> u64
     ensures { λ r. ⌜ r ≡ numberOf (behind (oneIn (now (w .entry))) batch) i wordBits ⌝ }
 {

@@ -11,38 +11,38 @@ use Rattle.refusal.specs.declared.Refusal.{Refusal}
 use Rattle.refusal.specs.declared.Judged.the-variants.{Accepted, Refused as Judged·Refused}
 use Rattle.refusal.specs.declared.Written.{Written}
 use Rattle.refusal.specs.declared.Written.the-variants.{Size, Refused}
-use Rattle.trace.specs.Trace.{lost, traceMax, countedAt, judgedWithin}
-use Rattle.trace.specs.Laws.{IsWithin}
-use Rattle.trace.specs.declared.Event.the-variants.{Lost}
+use Rattle.trace.specs.Trace.{packetMax, countedAt, judged}
+use Rattle.trace.specs.Laws.{IsTrace}
+use Rattle.trace.specs.declared.Event.{Event}
 use Rattle.packed.specs.Words.{wordsFor, oneIn, bytesOf}
 use Rattle.packed.specs.Judging.{judgedPacked}
 use Rattle.packing.specs.Packing.{wordsOf, packAnswer, unpackAnswer}
 use Rattle.packing.specs.Laws.{packedInto, unpackedInto}
-use Rattle.packing.specs.Steps.{Bits}
+use Rattle.packing.specs.Steps.{Packets}
 
--- an accepted trace is one of zeros and ones, read past its end as well
-pub within-bits : (limit : ℕ) (s : List ℕ) → IsWithin limit lost s → Bits s
-within-bits limit s t i = go (decLt i (length s))
+-- an accepted trace has packets alone, read past its end as well
+pub trace-packets : (s : List ℕ) → IsTrace s → Packets s
+trace-packets s t i = go (decLt i (length s))
   where
-    go : Dec (i < length s) → getD s i 0 ≤ lost
+    go : Dec (i < length s) → getD s i 0 ≤ packetMax
     go (yes h) = t .each i h
     go (no h) = rw (List·getD-eq-default s 0 {n = i} (omega arith)) (omega arith)
 
 -- the answer, and the buffer afterwards
-module _ (s buffer : List ℕ) where
+module _ (event : Event) (s buffer : List ℕ) where
   abbrev pub Packed : Written → List ℕ → Type 0
-  Packed r buffer′ = (r ≡ packAnswer s buffer) × (buffer′ ≡ packedInto s buffer)
+  Packed r buffer′ = (r ≡ packAnswer s buffer) × (buffer′ ≡ packedInto event s buffer)
 
-  pub pack-refused : (r : Refusal) → judgedWithin traceMax lost s ≡ Judged·Refused r → Packed (Refused r) buffer
+  pub pack-refused : (r : Refusal) → judged s ≡ Judged·Refused r → Packed (Refused r) buffer
   unfolding packAnswer
   pack-refused r is = rw is (refl, refl)
 
-  module _ (is : judgedWithin traceMax lost s ≡ Accepted) where
+  module _ (is : judged s ≡ Accepted) where
     pub pack-short : length buffer < wordsFor (length s) → Packed (Refused bufferShort) buffer
     unfolding packAnswer
     pack-short h = rw (is, lt-leb (wordsFor (length s)) (length buffer) h) (refl, refl)
 
-    pub pack-done : wordsFor (length s) ≤ length buffer → Packed (Size (wordsFor (length s))) (wordsOf (countedAt Lost s) (length s) ++ drop (wordsFor (length s)) buffer)
+    pub pack-done : wordsFor (length s) ≤ length buffer → Packed (Size (wordsFor (length s))) (wordsOf (countedAt event s) (length s) ++ drop (wordsFor (length s)) buffer)
     unfolding packAnswer
     pack-done h = rw (is, le-leb (wordsFor (length s)) (length buffer) h) (refl, refl)
 

@@ -1,4 +1,5 @@
 pub mod Octets
+pub mod Counted
 pub mod Placing
 pub mod Words
 pub mod Answers

@@ -1,7 +1,7 @@
--- Eight bits as eight bytes in one number, and back: the tables of both steps, the bytes of the number, and the number of eight
--- packets of a trace. Assumes nothing.
+-- Eight bits as eight bytes in one number, and back: the tables of both steps, the bytes of the number, and eight packets of a trace
+-- as they are loaded. Assumes nothing.
 use Prim.Native.Nat.{ℕ, zero, suc, _+_, _-_, _*_, _/_, _%_, _^_, _<_, _≤_}
-use mathlib.Core.Path.{_≡_, refl, sym, ap, ap₂, _∙_}
+use mathlib.Core.Path.{_≡_, refl, sym, ap, _∙_}
 use mathlib.Core.List.{List}
 use native.Mathlib.Omega.{arith}
 use native.Mathlib.Nat.{add-zero, add-suc, pow-succ', div-div-eq-div-mul, div-one}
@@ -13,11 +13,10 @@ use Rattle.refusal.proofs.Tests.{below, below-at}
 use Rattle.wire.specs.BigEndian.{placed}
 use Rattle.wire.proofs.Placed.{stored-8}
 use Rattle.trace.specs.Sum.{bit}
-use Rattle.trace.specs.Trace.{lost, countedAt, countsAs}
-use Rattle.trace.specs.declared.Event.the-variants.{Lost}
-use Rattle.packed.specs.Words.{oneAt, numberOf, bytesOf}
-use Rattle.packed.proofs.Numbers.{number-first, digit-bit, bit-of}
-use Rattle.packing.specs.Steps.{Bits, spread, ones}
+use Rattle.trace.specs.Trace.{packetMax}
+use Rattle.packed.specs.Words.{oneAt, bytesOf}
+use Rattle.packed.proofs.Numbers.{bit-of}
+use Rattle.packing.specs.Steps.{Packets, joined, spread, ones}
 
 -- both steps as the code has them: every number of eight bits is tested
 abbrev pub spreadOut : ℕ → ℕ
@@ -77,38 +76,30 @@ eight-stored s i n bits h is =
     stored-8 s i _ _ _ _ _ _ _ _ h
     ∙ rw (first, byte 1 (omega arith), byte 2 (omega arith), byte 3 (omega arith), byte 4 (omega arith), byte 5 (omega arith), byte 6 (omega arith), byte 7 (omega arith))
 
--- a packet that is received or lost, as a bit
-pub packet-bit : (s : List ℕ) → Bits s → (i : ℕ) → bit (countedAt Lost s i) ≡ getD s i 0
-unfolding countsAs
-packet-bit s b i = digit-bit (getD s i 0) (omega (arith, b i))
-
--- eight packets of a trace, as the code loads them: none is above 1, so that no shift overflows
+-- eight packets of a trace, as the code loads them: none is above 2, so that no shift overflows
 abbrev pub Small : List ℕ → ℕ → Type 0
 Small s i =
-    (getD s i 0 ≤ lost) × (getD s (i + 1) 0 ≤ lost) × (getD s (i + 2) 0 ≤ lost) × (getD s (i + 3) 0 ≤ lost) × (getD s (i + 4) 0 ≤ lost)
-    × (getD s (i + 5) 0 ≤ lost) × (getD s (i + 6) 0 ≤ lost) × (getD s (i + 7) 0 ≤ lost)
+    (getD s i 0 ≤ packetMax) × (getD s (i + 1) 0 ≤ packetMax) × (getD s (i + 2) 0 ≤ packetMax) × (getD s (i + 3) 0 ≤ packetMax)
+    × (getD s (i + 4) 0 ≤ packetMax) × (getD s (i + 5) 0 ≤ packetMax) × (getD s (i + 6) 0 ≤ packetMax) × (getD s (i + 7) 0 ≤ packetMax)
 
-pub small : (s : List ℕ) → Bits s → (i : ℕ) → Small s i
+pub small : (s : List ℕ) → Packets s → (i : ℕ) → Small s i
 small s b i = (b i, b (i + 1), b (i + 2), b (i + 3), b (i + 4), b (i + 5), b (i + 6), b (i + 7))
 
-module _ (s : List ℕ) (b : Bits s) (i : ℕ) where
-  next : (k n : ℕ) → spread (suc n) (numberOf (countedAt Lost s) (i + k) (suc n)) ≡ getD s (i + k) 0 + 256 * spread n (numberOf (countedAt Lost s) (i + suc k) n)
-  unfolding spread
-  next k n =
-      let parts = number-first (countedAt Lost s) (i + k) n in
-      ap₂ (λ (x y : ℕ). x + 256 * spread n y) (parts .0 ∙ packet-bit s b (i + k)) (parts .1 ∙ ap (λ (j : ℕ). numberOf (countedAt Lost s) j n) (sym (add-suc i k)))
+module _ (s : List ℕ) (i : ℕ) where
+  next : (k n : ℕ) → joined s (i + k) (suc n) ≡ getD s (i + k) 0 + 256 * joined s (i + suc k) n
+  unfolding joined
+  next k n = ap (λ (j : ℕ). getD s (i + k) 0 + 256 * joined s j n) (sym (add-suc i k))
 
-  spread-none : (x : ℕ) → spread 0 x ≡ 0
-  unfolding spread
-  spread-none x = refl
+  joined-none : (k : ℕ) → joined s k 0 ≡ 0
+  unfolding joined
+  joined-none k = refl
 
-  pub loaded-is :
-      getD s i 0 + getD s (i + 1) 0 * 2 ^ 8 % 2 ^ 64 + getD s (i + 2) 0 * 2 ^ 16 % 2 ^ 64 + getD s (i + 3) 0 * 2 ^ 24 % 2 ^ 64
-      + getD s (i + 4) 0 * 2 ^ 32 % 2 ^ 64 + getD s (i + 5) 0 * 2 ^ 40 % 2 ^ 64 + getD s (i + 6) 0 * 2 ^ 48 % 2 ^ 64 + getD s (i + 7) 0 * 2 ^ 56 % 2 ^ 64
-      ≡ spread 8 (numberOf (countedAt Lost s) i 8)
-  loaded-is =
-      let few = small s b i in
-      let start = ap (λ (j : ℕ). spread 8 (numberOf (countedAt Lost s) j 8)) (add-zero i) in
+  joined-eight :
+      joined s i 8
+      ≡ getD s i 0 + 256 * (getD s (i + 1) 0 + 256 * (getD s (i + 2) 0 + 256 * (getD s (i + 3) 0
+      + 256 * (getD s (i + 4) 0 + 256 * (getD s (i + 5) 0 + 256 * (getD s (i + 6) 0 + 256 * getD s (i + 7) 0))))))
+  joined-eight =
+      let start = ap (λ (j : ℕ). joined s j 8) (add-zero i) in
       let here = ap (λ (j : ℕ). getD s j 0) (add-zero i) in
       let a = next 0 7 in
       let b = next 1 6 in
@@ -118,5 +109,15 @@ module _ (s : List ℕ) (b : Bits s) (i : ℕ) where
       let f = next 5 2 in
       let g = next 6 1 in
       let h = next 7 0 in
-      let none = spread-none (numberOf (countedAt Lost s) (i + 8) 0) in
+      let none = joined-none (i + 8) in
       omega arith
+
+  module _ (b : Packets s) where
+    pub loaded-is :
+        getD s i 0 + getD s (i + 1) 0 * 2 ^ 8 % 2 ^ 64 + getD s (i + 2) 0 * 2 ^ 16 % 2 ^ 64 + getD s (i + 3) 0 * 2 ^ 24 % 2 ^ 64
+        + getD s (i + 4) 0 * 2 ^ 32 % 2 ^ 64 + getD s (i + 5) 0 * 2 ^ 40 % 2 ^ 64 + getD s (i + 6) 0 * 2 ^ 48 % 2 ^ 64 + getD s (i + 7) 0 * 2 ^ 56 % 2 ^ 64
+        ≡ joined s i 8
+    loaded-is = let few = small s b i in let is = joined-eight in omega arith
+
+    pub joined-most : joined s i 8 ≤ 2 * ones
+    joined-most = let few = small s b i in let is = joined-eight in omega arith

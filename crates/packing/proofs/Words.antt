@@ -1,5 +1,5 @@
--- The words of packets: how many, one more behind, packets put into a word behind others; packets as bytes behind others; and that
--- nothing is lost past the end. Assumes nothing.
+-- The words of packets: how many, one more behind, packets put into a word behind others; packets as bytes behind others. Assumes
+-- nothing.
 use Prim.Native.Nat.{ℕ, zero, suc, _+_, _-_, _*_, _/_, _%_, _^_, _<_, _≤_}
 use mathlib.Core.Path.{_≡_, refl, sym, ap, _∙_}
 use mathlib.Core.Bool.{Bool, false}
@@ -8,10 +8,8 @@ use native.Mathlib.Omega.{arith}
 use native.Mathlib.Nat.{zero-mul, zero-add}
 use native.Mathlib.Numerals.{add-one}
 use lib.Dec.{eqb}
-use lib.ListN.{length, getD, length-append, List·getD-eq-default}
+use lib.ListN.{length, getD, length-append}
 use lib.Pow.{pow-mono, shl-exact, shr-shr, field, mod-mod-pow}
-use Rattle.trace.specs.Trace.{countedAt, countsAs}
-use Rattle.trace.specs.declared.Event.the-variants.{Lost}
 use Rattle.packed.specs.Words.{wordBits, oneAt, oneIn, numberOf, bytesOf}
 use Rattle.packed.proofs.Numbers.{number-cut, number-lt, number-zero, bit-of}
 use Rattle.packed.proofs.Windows.{one-word}
@@ -79,8 +77,3 @@ octet-more word m = bytes-more (oneAt word) (oneAt (word / 2 ^ m % 256)) m 8 (λ
 pub bit-more : (word j : ℕ) → bytesOf (oneAt word) 0 (j + 1) ≡ bytesOf (oneAt word) 0 j ++ (word / 2 ^ j % 2 ∷ [])
 unfolding bytesOf
 bit-more word j = bytes-cut (oneAt word) 0 j 1 ∙ ap (λ (x : ℕ). bytesOf (oneAt word) 0 j ++ (x ∷ [])) (rw (zero-add j) (bit-of word j))
-
--- past the end of a trace nothing is lost
-pub none-past : (s : List ℕ) (i : ℕ) → length s ≤ i → countedAt Lost s i ≡ false
-unfolding countsAs
-none-past s i h = rw (List·getD-eq-default s 0 h)

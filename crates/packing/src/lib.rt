@@ -1,95 +1,95 @@
-// A trace of received and lost packets packed into words, and words unpacked into such a trace: document 02, ticket 6. Both go
-// eight packets at a time, and one by one behind the last whole word.
+// A trace packed into words by what is chosen to count, and words unpacked into a trace of zeros and ones: document 02, tickets 6
+// and 7. Both go eight packets at a time, and one by one behind the last whole word.
 use packed::WORD;
 use refusal::Judged;
 use refusal::Written;
+use trace::Event;
 ghost use mathlib.Core.Path.{_≡_};
 ghost use mathlib.Core.List.{_++_};
-ghost use Prim.Native.Nat.{_+_, _<_, _≤_};
+ghost use Prim.Native.Nat.{_+_, _*_, _<_, _≤_};
 ghost use lib.ListN.{length, drop};
 ghost use Rattle.refusal.specs.Answer.{after};
-ghost use Rattle.trace.specs.declared.Event.the-variants.{Lost};
 ghost use Rattle.trace.specs.Trace.{countedAt};
 ghost use Rattle.wire.specs.BigEndian.{placed};
 ghost use Rattle.packed.specs.Words.{wordBits, oneAt, oneIn, wordsFor, numberOf, bytesOf};
 ghost use Rattle.packing.specs.Packing.{wordsOf, packAnswer, unpackAnswer};
-ghost use Rattle.packing.specs.Steps.{Bits, spread, ones, Gathered};
+ghost use Rattle.packing.specs.Steps.{Packets, joined, brought, lowest, spread, ones, Gathered};
 
-// Packs a trace into the front of out; answers how many words it takes. A discarded packet has no place in words.
-pub fn pack(trace: &[u8], out: &mut [u64]) -> Written
+// Packs a trace into the front of out, a one for each packet that the event counts; answers how many words it takes.
+pub fn pack(trace: &[u8], event: Event, out: &mut [u64]) -> Written
     ensures answer { λ r. ⌜ r ≡ packAnswer (now (trace .entry)) (now (out .entry)) ⌝ }
-    ensures buffer { λ r. ⌜ now (out .exit) ≡ after (packAnswer (now (trace .entry)) (now (out .entry))) (wordsOf (countedAt Lost (now (trace .entry))) (length (now (trace .entry)))) (now (out .entry)) ⌝ }
+    ensures buffer { λ r. ⌜ now (out .exit) ≡ after (packAnswer (now (trace .entry)) (now (out .entry))) (wordsOf (countedAt event (now (trace .entry))) (length (now (trace .entry)))) (now (out .entry)) ⌝ }
 {
-    match trace::judge_within(trace, trace::TRACE_MAX, trace::LOST) {
+    match trace::judge(trace) {
         Judged::Accepted => {
             let n = packed::words_for(trace.len());
             if out.len() < n {
                 return Written::Refused(refusal::BUFFER_SHORT);
             }
-            put_words(trace, out);
+            put_words(event, trace, out);
             Written::Size(n)
         }
         Judged::Refused(r) => Written::Refused(r),
     }
 }
 
-// Packs a trace of received and lost packets into the front of out, which has room for its words.
-fn put_words(trace: &[u8], out: &mut [u64])
-    requires { ⌜ Bits (now trace) × (wordsFor (length (now trace)) ≤ length (now out)) ⌝ }
-    ensures { λ r. ⌜ now (out .exit) ≡ wordsOf (countedAt Lost (now (trace .entry))) (length (now (trace .entry))) ++ drop (wordsFor (length (now (trace .entry)))) (now (out .entry)) ⌝ }
+// Packs an accepted trace into the front of out, which has room for its words.
+fn put_words(event: Event, trace: &[u8], out: &mut [u64])
+    requires { ⌜ Packets (now trace) × (wordsFor (length (now trace)) ≤ length (now out)) ⌝ }
+    ensures { λ r. ⌜ now (out .exit) ≡ wordsOf (countedAt event (now (trace .entry))) (length (now (trace .entry))) ++ drop (wordsFor (length (now (trace .entry)))) (now (out .entry)) ⌝ }
 {
     let whole = trace.len() / WORD;
     let mut k = 0;
     while k < whole {
-        out[k] = word(trace, WORD * k);
+        out[k] = word(event, trace, WORD * k);
         k += 1;
     }
     if trace.len() % WORD == 0 {
         return;
     }
-    out[whole] = last_word(trace, WORD * whole);
+    out[whole] = last_word(event, trace, WORD * whole);
 }
 
 // The word of the 64 packets from packet i on.
-fn word(trace: &[u8], i: usize) -> u64
-    requires { ⌜ Bits (now trace) × (i + wordBits ≤ length (now trace)) ⌝ }
-    ensures { λ r. ⌜ r ≡ numberOf (countedAt Lost (now (trace .entry))) i wordBits ⌝ }
+fn word(event: Event, trace: &[u8], i: usize) -> u64
+    requires { ⌜ Packets (now trace) × (i + wordBits ≤ length (now trace)) ⌝ }
+    ensures { λ r. ⌜ r ≡ numberOf (countedAt event (now (trace .entry))) i wordBits ⌝ }
 {
     let mut word = 0;
     let mut j = 0;
     while j < 8 {
-        word = word + (octet(trace, i + 8 * j) << (8 * j));
+        word = word + (octet(event, trace, i + 8 * j) << (8 * j));
         j += 1;
     }
     word
 }
 
 // The last word, of fewer packets, from packet i on; its bits past the end are zero.
-fn last_word(trace: &[u8], i: usize) -> u64
-    requires { ⌜ Bits (now trace) × (i ≤ length (now trace)) × (length (now trace) ≤ i + wordBits) ⌝ }
-    ensures { λ r. ⌜ r ≡ numberOf (countedAt Lost (now (trace .entry))) i wordBits ⌝ }
+fn last_word(event: Event, trace: &[u8], i: usize) -> u64
+    requires { ⌜ (i ≤ length (now trace)) × (length (now trace) ≤ i + wordBits) ⌝ }
+    ensures { λ r. ⌜ r ≡ numberOf (countedAt event (now (trace .entry))) i wordBits ⌝ }
 {
     let mut word = 0;
     let mut j = 0;
     while j < trace.len() - i {
-        word = word + ((trace[i + j] as u64) << j);
+        word = word + ((trace::counted(event, trace[i + j]) as u64) << j);
         j += 1;
     }
     word
 }
 
 // Eight packets from packet i on as eight bits.
-fn octet(trace: &[u8], i: usize) -> u64
-    requires { ⌜ Bits (now trace) × (i + 8 ≤ length (now trace)) ⌝ }
-    ensures { λ r. ⌜ r ≡ numberOf (countedAt Lost (now (trace .entry))) i 8 ⌝ }
+fn octet(event: Event, trace: &[u8], i: usize) -> u64
+    requires { ⌜ Packets (now trace) × (i + 8 ≤ length (now trace)) ⌝ }
+    ensures { λ r. ⌜ r ≡ numberOf (countedAt event (now (trace .entry))) i 8 ⌝ }
 {
-    gathered(loaded(trace, i))
+    gathered(flags(event, loaded(trace, i)))
 }
 
 // Eight packets as one number, the first in its lowest byte: eight loads that the compiler makes one.
 fn loaded(trace: &[u8], i: usize) -> u64
-    requires { ⌜ Bits (now trace) × (i + 8 ≤ length (now trace)) ⌝ }
-    ensures { λ r. ⌜ r ≡ spread 8 (numberOf (countedAt Lost (now (trace .entry))) i 8) ⌝ }
+    requires { ⌜ Packets (now trace) × (i + 8 ≤ length (now trace)) ⌝ }
+    ensures { λ r. ⌜ r ≡ joined (now (trace .entry)) i 8 ⌝ }
 {
     (trace[i] as u64)
         + ((trace[i + 1] as u64) << 8)
@@ -99,6 +99,18 @@ fn loaded(trace: &[u8], i: usize) -> u64
         + ((trace[i + 5] as u64) << 40)
         + ((trace[i + 6] as u64) << 48)
         + ((trace[i + 7] as u64) << 56)
+}
+
+// Eight packets with 1 for each that the event counts, and 0 for any other.
+fn flags(event: Event, eight: u64) -> u64
+    requires { ⌜ eight ≤ 2 * ones ⌝ }
+    ensures { λ r. ⌜ r ≡ lowest 8 (brought event eight) ⌝ }
+{
+    match event {
+        Event::Lost => eight & ONES,
+        Event::Discarded => eight / 2 & ONES,
+        Event::Either => (eight + eight / 2) & ONES,
+    }
 }
 
 // Eight bits out of eight bytes of 0 or 1. Each step brings the upper of two neighbours to the lower: pairs of bits, fours of
@@ -112,7 +124,7 @@ fn gathered(eight: u64) -> u64
     (fours + fours / 268_435_456) % 256
 }
 
-// Unpacks words into the front of out, 0 for a received and 1 for a lost packet; answers how many packets these are.
+// Unpacks words into the front of out, 1 for each one and 0 for each zero; answers how many packets these are.
 pub fn unpack(words: &[u64], packets: usize, out: &mut [u8]) -> Written
     ensures answer { λ r. ⌜ r ≡ unpackAnswer (now (words .entry)) packets (now (out .entry)) ⌝ }
     ensures buffer { λ r. ⌜ now (out .exit) ≡ after (unpackAnswer (now (words .entry)) packets (now (out .entry))) (bytesOf (oneIn (now (words .entry))) 0 packets) (now (out .entry)) ⌝ }

@@ -1,4 +1,4 @@
--- `packing::loaded` meets its contract: no byte is above 1, so that eight of them fit one number. Assumes nothing.
+-- `packing::loaded` meets its contract: no byte is above 2, so that eight of them fit one number. Assumes nothing.
 use native.Mathlib.Omega.{arith}
 use Rattle.packing.proofs.Octets.{Small, small, loaded-is}
 use borrow.Author.Needs.{needs}
@@ -99,7 +99,7 @@ add-result-14 : tie.Need-add-result-14
 add-result-14 c = omega (arith, few (c .before .before .before .before .before .before .before .before))
 
 returns : tie.Need-returns
-returns c = let start = c .before .before .before .before .before .before .before .before in loaded-is (start .args .trace .now) (start .pre .0) (start .args .i)
+returns c = let start = c .before .before .before .before .before .before .before .before in loaded-is (start .args .trace .now) (start .args .i) (start .pre .0)
 
 pub loaded-spec : {M : Type 1} → statement M
 loaded-spec =

@@ -5,7 +5,6 @@ use native.Mathlib.Omega.{arith}
 use native.Mathlib.Nat.{zero-add}
 use lib.ListN.{length, set}
 use Rattle.trace.specs.Trace.{countedAt}
-use Rattle.trace.specs.declared.Event.the-variants.{Lost}
 use Rattle.packed.specs.Words.{wordBits, wordsFor}
 use Rattle.packing.specs.Packing.{wordsUpTo}
 use Rattle.packing.proofs.Placing.{Placing, placing-none, placing-long, placing-one, placing-front}
@@ -14,16 +13,16 @@ use Rattle.packing.proofs.put_words.Statement.{statement}
 use Rattle.packing.proofs.put_words.Tie as tie
 
 abbrev Inv-loop : tie.InvT-loop
-Inv-loop trace out₀ whole k₀ out k = Placing (wordsUpTo (countedAt Lost trace)) out₀ 0 (wordsFor (length trace)) out k × (k ≤ whole)
+Inv-loop event trace out₀ whole k₀ out k = Placing (wordsUpTo (countedAt event trace)) out₀ 0 (wordsFor (length trace)) out k × (k ≤ whole)
 
 abbrev μ-loop : tie.MeasureT-loop
-μ-loop trace out₀ whole k₀ out k = whole - k
+μ-loop event trace out₀ whole k₀ out k = whole - k
 
 long : (c : tie.At-loop Inv-loop μ-loop) → length (c .loop .out) ≡ length (c .before .before .before .args .out .now)
 long c = placing-long _ (words-fronts _) _ _ _ _ _ (c .loop .inv .0)
 
 loop-holds : tie.Need-loop-holds Inv-loop μ-loop
-loop-holds c = (placing-none _ (words-fronts (countedAt Lost (c .before .before .args .trace .now))) _ _ _ (omega arith), omega arith)
+loop-holds c = (placing-none _ (words-fronts (countedAt (c .before .before .args .event) (c .before .before .args .trace .now))) _ _ _ (omega arith), omega arith)
 
 mul-word : tie.Need-mul-word Inv-loop μ-loop
 mul-word c = omega arith
@@ -46,7 +45,7 @@ loop-less c = omega arith
 loop-again : tie.Need-loop-again Inv-loop μ-loop
 loop-again c =
     let turn = c .before .before in
-    let lost = countedAt Lost (turn .before .before .before .args .trace .now) in
+    let lost = countedAt (turn .before .before .before .args .event) (turn .before .before .before .args .trace .now) in
     (placing-one _ (words-fronts lost) _ _ _ _ _ (turn .loop .inv .0) _ _ (omega arith) (sym (zero-add (turn .loop .k))) (words-next lost (turn .loop .k) _ (c .word .ensures)), omega arith)
 
 same-length : tie.Need-same-length Inv-loop μ-loop
@@ -59,7 +58,7 @@ mul-last-word : tie.Need-mul-last-word Inv-loop μ-loop
 mul-last-word c = omega arith
 
 last-word-requires : tie.Need-last-word-requires Inv-loop μ-loop
-last-word-requires c κs = (c .before .before .before .before .before .pre .0, omega arith, omega arith)
+last-word-requires c κs = (omega arith, omega arith)
 
 mul-out-2 : tie.Need-mul-out-2 Inv-loop μ-loop
 mul-out-2 c = omega arith
@@ -71,12 +70,12 @@ slice-write-out-2 c = omega (arith, long (c .before .before .before))
 rest : (c : tie.After-last-word Inv-loop μ-loop) →
     let args = c .before .before .before .before .before .before .args in
     let whole = length (args .trace .now) / wordBits in
-    Placing (wordsUpTo (countedAt Lost (args .trace .now))) (args .out .now) 0 (wordsFor (length (args .trace .now)))
+    Placing (wordsUpTo (countedAt (args .event) (args .trace .now))) (args .out .now) 0 (wordsFor (length (args .trace .now)))
     (set (c .before .before .before .loop .out) whole (c .last-word .result)) (whole + 1)
 rest c =
     let turn = c .before .before .before in
     let args = turn .before .before .before .args in
-    let lost = countedAt Lost (args .trace .now) in
+    let lost = countedAt (args .event) (args .trace .now) in
     let whole : ℕ = length (args .trace .now) / wordBits in
     let end : turn .loop .k ≡ whole = omega (arith, turn .loop .inv .1) in
     let here : Placing (wordsUpTo lost) (args .out .now) 0 (wordsFor (length (args .trace .now))) (turn .loop .out) whole = rw (← end) (turn .loop .inv .0) in

@@ -3,7 +3,6 @@ use Prim.Native.Nat.{ℕ, _+_, _-_, _*_, _%_, _^_, _≤_}
 use mathlib.Core.Path.{_≡_, sym, ap, _∙_}
 use native.Mathlib.Omega.{arith}
 use Rattle.trace.specs.Trace.{countedAt}
-use Rattle.trace.specs.declared.Event.the-variants.{Lost}
 use Rattle.packed.specs.Words.{wordBits, numberOf}
 use Rattle.packed.proofs.Numbers.{number-none}
 use Rattle.packing.proofs.Words.{number-fits, number-more}
@@ -11,13 +10,13 @@ use Rattle.packing.proofs.word.Statement.{statement}
 use Rattle.packing.proofs.word.Tie as tie
 
 abbrev Inv-loop : tie.InvT-loop
-Inv-loop trace i word₀ j₀ word j = (j ≤ 8) × (word ≡ numberOf (countedAt Lost trace) i (8 * j))
+Inv-loop event trace i word₀ j₀ word j = (j ≤ 8) × (word ≡ numberOf (countedAt event trace) i (8 * j))
 
 abbrev μ-loop : tie.MeasureT-loop
-μ-loop trace i word₀ j₀ word j = 8 - j
+μ-loop event trace i word₀ j₀ word j = 8 - j
 
 loop-holds : tie.Need-loop-holds Inv-loop μ-loop
-loop-holds c = (omega arith, sym (number-none (countedAt Lost (c .before .args .trace .now)) (c .before .args .i)))
+loop-holds c = (omega arith, sym (number-none (countedAt (c .before .args .event) (c .before .args .trace .now)) (c .before .args .i)))
 
 mul-octet : tie.Need-mul-octet Inv-loop μ-loop
 mul-octet c = omega arith
@@ -37,17 +36,18 @@ shl-word c = omega arith
 -- eight packets more
 more : (c : tie.After-octet Inv-loop μ-loop) →
     let s = c .before .before .before .before .args .trace .now in let i = c .before .before .before .before .args .i in let j = c .before .before .loop .j in
-    c .before .before .loop .word + c .octet .result * 2 ^ (8 * j) % 2 ^ 64 ≡ numberOf (countedAt Lost s) i (8 * (j + 1))
+    c .before .before .loop .word + c .octet .result * 2 ^ (8 * j) % 2 ^ 64 ≡ numberOf (countedAt (c .before .before .before .before .args .event) s) i (8 * (j + 1))
 more c =
+    let event = c .before .before .before .before .args .event in
     let s = c .before .before .before .before .args .trace .now in
     let i = c .before .before .before .before .args .i in
     let j = c .before .before .loop .j in
     let next : 8 * j + 8 ≡ 8 * (j + 1) = omega arith in
     ap (λ (w : ℕ). w + c .octet .result * 2 ^ (8 * j) % 2 ^ 64) (c .before .before .loop .inv .1)
-    ∙ number-more (countedAt Lost s) i (8 * j) 8 (c .octet .result) (omega arith) (c .octet .ensures) ∙ ap (numberOf (countedAt Lost s) i) next
+    ∙ number-more (countedAt event s) i (8 * j) 8 (c .octet .result) (omega arith) (c .octet .ensures) ∙ ap (numberOf (countedAt event s) i) next
 
 add-word : tie.Need-add-word Inv-loop μ-loop
-add-word c = let start = c .before .before .before .before .args in omega (arith, more c, number-fits (countedAt Lost (start .trace .now)) (start .i) (8 * (c .before .before .loop .j + 1)) (omega arith))
+add-word c = let start = c .before .before .before .before .args in omega (arith, more c, number-fits (countedAt (start .event) (start .trace .now)) (start .i) (8 * (c .before .before .loop .j + 1)) (omega arith))
 
 add-j : tie.Need-add-j Inv-loop μ-loop
 add-j c = omega arith
@@ -62,7 +62,7 @@ returns : tie.Need-returns Inv-loop μ-loop
 returns c =
     let start = c .before .before .before in
     let end : 8 * c .before .loop .j ≡ wordBits = omega arith in
-    c .before .loop .inv .1 ∙ ap (numberOf (countedAt Lost (start .args .trace .now)) (start .args .i)) end
+    c .before .loop .inv .1 ∙ ap (numberOf (countedAt (start .args .event) (start .args .trace .now)) (start .args .i)) end
 
 pub word-spec : {M : Type 1} → statement M
 word-spec =
