@@ -27,9 +27,9 @@ extern "C" {
 
 /* The version of this header: major * 10,000 + minor * 100 + patch. */
 #define NUVASKOE_VERSION_MAJOR 0
-#define NUVASKOE_VERSION_MINOR 6
+#define NUVASKOE_VERSION_MINOR 7
 #define NUVASKOE_VERSION_PATCH 0
-#define NUVASKOE_VERSION 600
+#define NUVASKOE_VERSION 700
 
 /* The version of the archive that is linked: that of this header is NUVASKOE_VERSION. */
 uint32_t nuvaskoe_version(void);
@@ -391,10 +391,11 @@ nuvaskoe_written nuvaskoe_packet_add_rle(uint8_t *out, size_t out_len, uint32_t 
  */
 #define NUVASKOE_TRACE_MAX 65536
 
-/* Which packets are counted; every other number is refused with 15. */
+/* Which packets are counted, by the caller's choice; every other number is refused with 15. */
 enum {
     NUVASKOE_EVENT_LOST = 1, /* the lost, for a block 17 */
-    NUVASKOE_EVENT_DISCARDED = 2 /* the discarded, for a block 18 */
+    NUVASKOE_EVENT_DISCARDED = 2, /* the discarded, for a block 18 */
+    NUVASKOE_EVENT_EITHER = 3 /* the lost and the discarded alike; no block is for these */
 };
 
 /* The figures as blocks 17 and 18 hold them. */
@@ -475,7 +476,7 @@ typedef struct nuvaskoe_stretch {
 typedef struct nuvaskoe_tally {
     uint32_t gmin;
     uint32_t spacing;
-    uint32_t event; /* NUVASKOE_EVENT_LOST or NUVASKOE_EVENT_DISCARDED */
+    uint32_t event; /* NUVASKOE_EVENT_LOST, NUVASKOE_EVENT_DISCARDED or NUVASKOE_EVENT_EITHER */
     nuvaskoe_sums sums;
     nuvaskoe_stretch stretch;
 } nuvaskoe_tally;
@@ -500,14 +501,14 @@ nuvaskoe_figured nuvaskoe_tally_close(nuvaskoe_tally tally);
 
 /*
  * The block of all packets taken, with this source and interval flag: a 17 of a tally that counts lost packets, an 18 of
- * one that counts discarded ones. Refusal: 15.
+ * one that counts discarded ones. Refusal: 15, also of one that counts either: no block has its events.
  */
 nuvaskoe_summary nuvaskoe_tally_block(nuvaskoe_tally tally, uint32_t source, uint8_t flag);
 
 /*
- * Batches: all runs of `batch` consecutive packets of a trace. A discarded packet is no loss. A batch is over the
- * threshold when it holds more than `threshold` losses. The refusals of both calls, in this order: 15 (batch 1 to 1,024,
- * threshold 0 to 1,024), 10, 9 (placed at the first bad byte), 14.
+ * Batches: all runs of `batch` consecutive packets of a trace. A loss is a packet that `event` counts, and no other is. A
+ * batch is over the threshold when it holds more than `threshold` losses. The refusals of both calls, in this order: 15 (batch
+ * 1 to 1,024, threshold 0 to 1,024, event), 10, 9 (placed at the first bad byte), 14.
  */
 
 /* How many batches of a trace are over the threshold. Where refused, all after refusal is 0. */
@@ -526,39 +527,42 @@ typedef struct nuvaskoe_marks {
     size_t marks; /* how many packets the plan marks; 0 where refused */
 } nuvaskoe_marks;
 
-/* The effective loss of a trace. */
-nuvaskoe_loss nuvaskoe_effective_loss(const uint8_t *trace, size_t trace_len, uint32_t batch, uint32_t threshold);
+/* The effective loss of a trace, with the packets that the event counts as its losses. */
+nuvaskoe_loss nuvaskoe_effective_loss(const uint8_t *trace, size_t trace_len, uint32_t batch, uint32_t threshold,
+                                      uint32_t event);
 
 /*
- * Writes the smallest resend plan into the front of out, one byte a packet: 1 for a lost packet to resend and 0 for any
+ * Writes the smallest resend plan into the front of out, one byte a packet: 1 for a counted packet to resend and 0 for any
  * other. With the marked packets received no batch is over the threshold, and no plan of fewer marks does that. The
  * bytes after the plan keep what they held. Further refusal: 8, out is shorter than the trace.
  */
 nuvaskoe_marks nuvaskoe_resend_plan(const uint8_t *trace, size_t trace_len, uint32_t batch, uint32_t threshold,
-                                    uint8_t *out, size_t out_len);
+                                    uint32_t event, uint8_t *out, size_t out_len);
 
 /*
- * A packed trace: 64 packets a word, packet i in word i / 64 at bit i modulo 64 (bit 0 is the lowest), 1 for a lost packet and 0
- * for a received one; it has no discarded packets. The bits of the last needed word that are past the end are 0. Words behind
- * that one are neither read nor changed. The refusals of the words, in this order: 10, so many packets are none or over 65,536;
- * 8, there are fewer words than they need; 9, a bit past the end is not 0, placed at the first one by its index, counted on from
- * the packets.
+ * A packed trace: 64 packets a word, packet i in word i / 64 at bit i modulo 64 (bit 0 is the lowest), 1 for a packet that was
+ * counted by the event that it was packed by and 0 for any other. It does not keep which event that was: its ones are the losses.
+ * The bits of the last needed word that are past the end are 0. Words behind that one are neither read nor changed. The refusals
+ * of the words, in this order: 10, so many packets are none or over 65,536; 8, there are fewer words than they need; 9, a bit past
+ * the end is not 0, placed at the first one by its index, counted on from the packets.
  */
 
 /*
- * Packs a trace into the front of out: a word for each 64 packets, the last one filled up with zeros. A good call answers how
- * many words these are; the words after them keep what they held. Refusals: 10, 9 for a byte other than 0 and 1, 8.
+ * Packs a trace into the front of out, by the event that counts: a word for each 64 packets, the last one filled up with zeros. A
+ * good call answers how many words these are; the words after them keep what they held. Refusals: 15 for the event, 10, 9 for a
+ * byte above 2, 8.
  */
-nuvaskoe_written nuvaskoe_trace_pack(const uint8_t *trace, size_t trace_len, uint64_t *out, size_t out_len);
+nuvaskoe_written nuvaskoe_trace_pack(const uint8_t *trace, size_t trace_len, uint32_t event, uint64_t *out,
+                                     size_t out_len);
 
 /*
- * Unpacks the words of so many packets into the front of out: a byte a packet, 0 received and 1 lost. A good call answers how
- * many packets these are; the bytes after them keep what they held. Refusals: those of the words, then 8 for out.
+ * Unpacks the words of so many packets into the front of out: a byte a packet, 1 for each one and 0 for each zero. A good call
+ * answers how many packets these are; the bytes after them keep what they held. Refusals: those of the words, then 8 for out.
  */
 nuvaskoe_written nuvaskoe_trace_unpack(const uint64_t *words, size_t words_len, size_t packets, uint8_t *out,
                                        size_t out_len);
 
-/* The effective loss of a packed trace. Refusals: 15, those of the words, 14. */
+/* The effective loss of a packed trace, with its ones as the losses. Refusals: 15, those of the words, 14. */
 nuvaskoe_loss nuvaskoe_packed_loss(const uint64_t *words, size_t words_len, size_t packets, uint32_t batch,
                                    uint32_t threshold);
 
@@ -680,7 +684,7 @@ static inline const char *nuvaskoe_refusal_advice(uint32_t number)
     case NUVASKOE_REFUSAL_BATCH_LENGTH:
         return "measure longer, or take a smaller batch";
     case NUVASKOE_REFUSAL_SETTING:
-        return "Gmin 1 to 255, batch 1 to 1,024, threshold 0 to 1,024, spacing 1 to 40,000; a tally is used as it was handed out";
+        return "Gmin 1 to 255, batch 1 to 1,024, threshold 0 to 1,024, spacing 1 to 40,000; a tally is used as it was handed out; a block is of lost or of discarded packets, not of either";
     case NUVASKOE_REFUSAL_BLOCK_VALUE:
         return "flag 1 to 3, rates 0 to 32,768 or 65,535";
     case NUVASKOE_REFUSAL_PACKET_FULL:

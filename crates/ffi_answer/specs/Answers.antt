@@ -6,9 +6,9 @@ use Rattle.refusal.specs.declared.Written.{Written}
 use Rattle.refusal.specs.declared.Written.the-variants.{Size, Refused}
 use Rattle.ffi_answer.specs.declared.WrittenSize.{WrittenSize}
 
--- 0.6.0: major × 10,000 + minor × 100 + patch
+-- 0.7.0: major × 10,000 + minor × 100 + patch
 abbrev pub version : ℕ
-version = 600
+version = 700
 
 abbrev pub none : Refusal
 none = record { number = 0; place = 0 }

@@ -8,7 +8,7 @@ ghost use Rattle.ffi_answer.specs.Answers.{version, writtenOut};
 
 pub const VERSION_MAJOR: u32 = 0;
 
-pub const VERSION_MINOR: u32 = 6;
+pub const VERSION_MINOR: u32 = 7;
 
 pub const VERSION_PATCH: u32 = 0;
 

@@ -1,17 +1,20 @@
-// Effective loss and the resend plan at the boundary to C.
+// Effective loss and the resend plan at the boundary to C, with what they count as an event's number.
 use batch::First;
 use batch::LossRead;
 use ffi_answer::NONE;
 use refusal::Refusal;
 use resend::Planned;
+use trace::EventRead;
 ghost use mathlib.Core.Path.{_≡_};
 ghost use lib.ListN.{length, take};
-ghost use Rattle.trace.specs.declared.Event.the-variants.{Lost};
+ghost use Rattle.trace.specs.declared.Event.{Event};
+ghost use Rattle.trace.specs.declared.EventRead.the-variants.{Known};
+ghost use Rattle.trace.specs.Events.{eventIn};
 ghost use Rattle.trace.specs.Trace.{countedAt, judged};
-ghost use Rattle.batch.specs.Loss.{lossAnswer};
 ghost use Rattle.resend.specs.Plans.{marks, Best};
-ghost use Rattle.resend.specs.Answer.{planAnswer, bufferAfter, Plannable};
+ghost use Rattle.resend.specs.Answer.{Plannable};
 ghost use Rattle.ffi_batch.specs.Answers.{lossOut, marksOut};
+ghost use Rattle.ffi_batch.specs.Calls.{lossBy, planBy, planAfterBy};
 
 // How many batches of a trace are over the threshold. Where refused, all after refusal is 0.
 // C: nuvaskoe_loss
@@ -81,15 +84,23 @@ pub fn marks_out(p: Planned) -> MarkCount
     }
 }
 
-// The effective loss of a trace.
+// The effective loss of a trace, with the packets that the event counts as its losses.
 #[no_mangle]
-pub extern "C" fn nuvaskoe_effective_loss(trace: &[u8], batch: u32, threshold: u32) -> LossNumbers
-    ensures { λ r. ⌜ r ≡ lossOut (lossAnswer (judged (now (trace .entry))) (countedAt Lost (now (trace .entry))) (length (now (trace .entry))) batch threshold) ⌝ }
+pub extern "C" fn nuvaskoe_effective_loss(
+    trace: &[u8],
+    batch: u32,
+    threshold: u32,
+    event: u32,
+) -> LossNumbers
+    ensures { λ r. ⌜ r ≡ lossBy (now (trace .entry)) batch threshold (eventIn event) ⌝ }
 {
-    loss_out(batch::effective_loss(trace, batch, threshold))
+    match trace::event_in(event) {
+        EventRead::Known(kind) => { loss_out(batch::effective_loss(trace, batch, threshold, kind)) }
+        EventRead::Unknown => loss_out(LossRead::Refused(refusal::SETTING)),
+    }
 }
 
-// Writes the smallest resend plan into the front of out, one byte a packet: 1 for a lost packet to resend and 0 for any
+// Writes the smallest resend plan into the front of out, one byte a packet: 1 for a counted packet to resend and 0 for any
 // other. With the marked packets received no batch is over the threshold, and no plan of fewer marks does that. The
 // bytes after the plan keep what they held. Further refusal: 8, out is shorter than the trace.
 #[no_mangle]
@@ -97,12 +108,16 @@ pub extern "C" fn nuvaskoe_resend_plan(
     trace: &[u8],
     batch: u32,
     threshold: u32,
+    event: u32,
     out: &mut [u8],
 ) -> MarkCount
-    ensures answer { λ r. ⌜ r ≡ marksOut (planAnswer (judged (now (trace .entry))) (countedAt Lost (now (trace .entry))) (length (now (trace .entry))) batch threshold (now (out .entry))) ⌝ }
-    ensures buffer { λ r. ⌜ now (out .exit) ≡ bufferAfter (judged (now (trace .entry))) (countedAt Lost (now (trace .entry))) (length (now (trace .entry))) batch threshold (now (out .entry)) ⌝ }
-    ensures best { λ r. ⌜ (Plannable (judged (now (trace .entry))) (length (now (trace .entry))) batch threshold (now (out .entry)) → Best (countedAt Lost (now (trace .entry))) (length (now (trace .entry))) batch threshold (take (length (now (trace .entry))) (now (out .exit)))) ⌝ }
-    ensures count { λ r. ⌜ (Plannable (judged (now (trace .entry))) (length (now (trace .entry))) batch threshold (now (out .entry)) → r .marks ≡ marks (take (length (now (trace .entry))) (now (out .exit)))) ⌝ }
+    ensures answer { λ r. ⌜ r ≡ planBy (now (trace .entry)) batch threshold (now (out .entry)) (eventIn event) ⌝ }
+    ensures buffer { λ r. ⌜ now (out .exit) ≡ planAfterBy (now (trace .entry)) batch threshold (now (out .entry)) (eventIn event) ⌝ }
+    ensures best { λ r. ⌜ ((kind : Event) → eventIn event ≡ Known kind → Plannable (judged (now (trace .entry))) (length (now (trace .entry))) batch threshold (now (out .entry)) → Best (countedAt kind (now (trace .entry))) (length (now (trace .entry))) batch threshold (take (length (now (trace .entry))) (now (out .exit)))) ⌝ }
+    ensures count { λ r. ⌜ ((kind : Event) → eventIn event ≡ Known kind → Plannable (judged (now (trace .entry))) (length (now (trace .entry))) batch threshold (now (out .entry)) → r .marks ≡ marks (take (length (now (trace .entry))) (now (out .exit)))) ⌝ }
 {
-    marks_out(resend::plan(trace, batch, threshold, out))
+    match trace::event_in(event) {
+        EventRead::Known(kind) => marks_out(resend::plan(trace, batch, threshold, kind, out)),
+        EventRead::Unknown => marks_out(Planned::Refused(refusal::SETTING)),
+    }
 }

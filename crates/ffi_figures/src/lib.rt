@@ -1,5 +1,5 @@
-// Burst and gap figures of a trace, and their blocks, at the boundary to C. An event is known by the number of the
-// packets that it counts; any other number is refusal 15.
+// Burst and gap figures of a trace, and their blocks, at the boundary to C. An event is known by its number; any other
+// number is refusal 15.
 use block::DiscardSummary;
 use block::LossSummary;
 use block::UNAVAILABLE;

@@ -2,32 +2,38 @@
 use ffi_answer::WrittenSize;
 use ffi_batch::LossNumbers;
 use ffi_batch::MarkCount;
+use refusal::Written;
+use trace::EventRead;
 ghost use mathlib.Core.Path.{_≡_};
 ghost use lib.ListN.{length, take};
 ghost use Rattle.refusal.specs.Answer.{after};
-ghost use Rattle.trace.specs.declared.Event.the-variants.{Lost};
-ghost use Rattle.trace.specs.Trace.{countedAt};
+ghost use Rattle.trace.specs.Events.{eventIn};
 ghost use Rattle.batch.specs.Loss.{lossAnswer};
 ghost use Rattle.resend.specs.Plans.{marks, Best};
 ghost use Rattle.resend.specs.Answer.{planAnswer, bufferAfter, Plannable};
 ghost use Rattle.packed.specs.Words.{oneIn, bytesOf};
 ghost use Rattle.packed.specs.Judging.{judgedPacked};
-ghost use Rattle.packing.specs.Packing.{wordsOf, packAnswer, unpackAnswer};
+ghost use Rattle.packing.specs.Packing.{unpackAnswer};
 ghost use Rattle.ffi_answer.specs.Answers.{writtenOut};
 ghost use Rattle.ffi_batch.specs.Answers.{lossOut, marksOut};
+ghost use Rattle.ffi_packed.specs.Calls.{packBy, packAfterBy};
 
-// Packs a trace into the front of out: a word for each 64 packets, the last one filled up with zeros. A good call answers how
-// many words these are; the words after them keep what they held. Refusals: 10, 9 for a byte other than 0 and 1, 8.
+// Packs a trace into the front of out, by the event that counts: a word for each 64 packets, the last one filled up with zeros. A
+// good call answers how many words these are; the words after them keep what they held. Refusals: 15 for the event, 10, 9 for a
+// byte above 2, 8.
 #[no_mangle]
-pub extern "C" fn nuvaskoe_trace_pack(trace: &[u8], out: &mut [u64]) -> WrittenSize
-    ensures answer { λ r. ⌜ r ≡ writtenOut (packAnswer (now (trace .entry)) (now (out .entry))) ⌝ }
-    ensures buffer { λ r. ⌜ now (out .exit) ≡ after (packAnswer (now (trace .entry)) (now (out .entry))) (wordsOf (countedAt Lost (now (trace .entry))) (length (now (trace .entry)))) (now (out .entry)) ⌝ }
+pub extern "C" fn nuvaskoe_trace_pack(trace: &[u8], event: u32, out: &mut [u64]) -> WrittenSize
+    ensures answer { λ r. ⌜ r ≡ writtenOut (packBy (now (trace .entry)) (now (out .entry)) (eventIn event)) ⌝ }
+    ensures buffer { λ r. ⌜ now (out .exit) ≡ packAfterBy (now (trace .entry)) (now (out .entry)) (eventIn event) ⌝ }
 {
-    ffi_answer::written_out(packing::pack(trace, out))
+    match trace::event_in(event) {
+        EventRead::Known(kind) => ffi_answer::written_out(packing::pack(trace, kind, out)),
+        EventRead::Unknown => ffi_answer::written_out(Written::Refused(refusal::SETTING)),
+    }
 }
 
-// Unpacks the words of so many packets into the front of out: a byte a packet, 0 received and 1 lost. A good call answers how
-// many packets these are; the bytes after them keep what they held. Refusals: those of the words, then 8 for out.
+// Unpacks the words of so many packets into the front of out: a byte a packet, 1 for each one and 0 for each zero. A good call
+// answers how many packets these are; the bytes after them keep what they held. Refusals: those of the words, then 8 for out.
 #[no_mangle]
 pub extern "C" fn nuvaskoe_trace_unpack(
     words: &[u64],
@@ -40,7 +46,7 @@ pub extern "C" fn nuvaskoe_trace_unpack(
     ffi_answer::written_out(packing::unpack(words, packets, out))
 }
 
-// The effective loss of a packed trace. Refusals: 15, those of the words, 14.
+// The effective loss of a packed trace, with its ones as the losses. Refusals: 15, those of the words, 14.
 #[no_mangle]
 pub extern "C" fn nuvaskoe_packed_loss(
     words: &[u64],

@@ -102,7 +102,7 @@ pub extern "C" fn nuvaskoe_discard_of_trace(
 }
 
 // The block of all packets taken, with this source and interval flag: a 17 of a tally that counts lost packets, an 18 of
-// one that counts discarded ones. Refusal: 15.
+// one that counts discarded ones. Refusal: 15, also of one that counts either: no block has its events.
 #[no_mangle]
 pub extern "C" fn nuvaskoe_tally_block(tally: TallyNumbers, source: u32, flag: u8) -> SummaryNumbers
     ensures { λ r. ⌜ r ≡ blockBy source flag (tallyIn tally) ⌝ }

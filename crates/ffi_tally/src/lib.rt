@@ -22,7 +22,7 @@ ghost use Rattle.ffi_tally.specs.Calls.{openBy, takeBy, closeBy};
 pub struct TallyNumbers {
     pub gmin: u32,
     pub spacing: u32,
-    pub event: u32, // NUVASKOE_EVENT_LOST or NUVASKOE_EVENT_DISCARDED
+    pub event: u32, // NUVASKOE_EVENT_LOST, NUVASKOE_EVENT_DISCARDED or NUVASKOE_EVENT_EITHER
     pub sums: Sums,
     pub stretch: Stretch,
 }

@@ -4,9 +4,9 @@
 use std::mem::{offset_of, size_of};
 
 pub(crate) const VERSION_MAJOR: u32 = 0;
-pub(crate) const VERSION_MINOR: u32 = 6;
+pub(crate) const VERSION_MINOR: u32 = 7;
 pub(crate) const VERSION_PATCH: u32 = 0;
-pub(crate) const VERSION: u32 = 600;
+pub(crate) const VERSION: u32 = 700;
 pub(crate) const CARD_BYTES: usize = 20;
 pub(crate) const PACKET_BYTES_MAX: usize = 262144;
 pub(crate) const BLOCK_RLE: u32 = 1;
@@ -38,6 +38,7 @@ pub(crate) const INTERVAL_MAX: u16 = 65533;
 pub(crate) const TRACE_MAX: usize = 65536;
 pub(crate) const EVENT_LOST: u32 = 1;
 pub(crate) const EVENT_DISCARDED: u32 = 2;
+pub(crate) const EVENT_EITHER: u32 = 3;
 
 #[repr(C)]
 #[derive(Debug, Clone, Copy, PartialEq, Eq)]
@@ -278,9 +279,9 @@ extern "C" {
     pub(crate) fn nuvaskoe_loss_of_trace(trace: *const u8, trace_len: usize, gmin: u32, spacing: u32, source: u32, flag: u8) -> Summary;
     pub(crate) fn nuvaskoe_discard_of_trace(trace: *const u8, trace_len: usize, gmin: u32, spacing: u32, source: u32, flag: u8) -> Summary;
     pub(crate) fn nuvaskoe_tally_block(tally: Tally, source: u32, flag: u8) -> Summary;
-    pub(crate) fn nuvaskoe_effective_loss(trace: *const u8, trace_len: usize, batch: u32, threshold: u32) -> Loss;
-    pub(crate) fn nuvaskoe_resend_plan(trace: *const u8, trace_len: usize, batch: u32, threshold: u32, out: *mut u8, out_len: usize) -> Marks;
-    pub(crate) fn nuvaskoe_trace_pack(trace: *const u8, trace_len: usize, out: *mut u64, out_len: usize) -> Written;
+    pub(crate) fn nuvaskoe_effective_loss(trace: *const u8, trace_len: usize, batch: u32, threshold: u32, event: u32) -> Loss;
+    pub(crate) fn nuvaskoe_resend_plan(trace: *const u8, trace_len: usize, batch: u32, threshold: u32, event: u32, out: *mut u8, out_len: usize) -> Marks;
+    pub(crate) fn nuvaskoe_trace_pack(trace: *const u8, trace_len: usize, event: u32, out: *mut u64, out_len: usize) -> Written;
     pub(crate) fn nuvaskoe_trace_unpack(words: *const u64, words_len: usize, packets: usize, out: *mut u8, out_len: usize) -> Written;
     pub(crate) fn nuvaskoe_packed_loss(words: *const u64, words_len: usize, packets: usize, batch: u32, threshold: u32) -> Loss;
     pub(crate) fn nuvaskoe_packed_plan(words: *const u64, words_len: usize, packets: usize, batch: u32, threshold: u32, out: *mut u8, out_len: usize) -> Marks;
