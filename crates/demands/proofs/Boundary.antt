@@ -5,7 +5,10 @@ use mathlib.Core.Bool.{Bool, true, false, cond, not, _||_}
 use mathlib.Core.List.{List, [], _∷_}
 use native.Mathlib.Omega.{arith}
 use lib.Dec.{eqb}
+use lib.ListN.{length}
 use Rattle.refusal.specs.Table.{setting}
+use Rattle.refusal.specs.Answer.{after}
+use Rattle.refusal.specs.declared.Refusal.{Refusal}
 use Rattle.refusal.specs.declared.Written.{Written}
 use Rattle.refusal.specs.declared.Written.the-variants.{Size, Refused as Written·Refused}
 use Rattle.settings.specs.Ranges.{burstInRange}
@@ -17,8 +20,12 @@ use Rattle.packet.specs.declared.BlockAt.{BlockAt}
 use Rattle.packet.specs.declared.BlockAt.the-variants.{Found, Refused as Block·Refused}
 use Rattle.compare.specs.declared.Compared.{Compared}
 use Rattle.compare.specs.declared.Compared.the-variants.{Differences, Refused as Compared·Refused}
-use Rattle.trace.specs.Trace.{lost, discarded}
-use Rattle.trace.specs.declared.Event.the-variants.{Lost, Discarded}
+use Rattle.trace.specs.Trace.{lost, discarded, countedAt, judged}
+use Rattle.trace.specs.declared.Event.{Event}
+use Rattle.trace.specs.declared.Event.the-variants.{Lost, Discarded, Either}
+use Rattle.trace.specs.declared.EventRead.{EventRead}
+use Rattle.trace.specs.declared.EventRead.the-variants.{Known, Unknown}
+use Rattle.trace.specs.Events.{either, eventIn}
 use Rattle.bursts.specs.declared.FiguresRead.{FiguresRead}
 use Rattle.bursts.specs.declared.FiguresRead.the-variants.{Accepted as Figures·Accepted, Refused as Figures·Refused}
 use Rattle.tally.specs.declared.Opened.{Opened}
@@ -31,24 +38,29 @@ use Rattle.figures.specs.declared.Summary.the-variants.{Loss, Discard, Refused 
 use Rattle.figures.specs.Figures.{figuresIn, summaryOf}
 use Rattle.batch.specs.declared.LossRead.{LossRead}
 use Rattle.batch.specs.declared.LossRead.the-variants.{Loss as LossRead·Loss, Refused as LossRead·Refused}
+use Rattle.batch.specs.Loss.{lossAnswer}
 use Rattle.resend.specs.declared.Planned.{Planned}
 use Rattle.resend.specs.declared.Planned.the-variants.{Marks, Refused as Planned·Refused}
-use Rattle.ffi_answer.specs.Answers.{writtenOut}
+use Rattle.resend.specs.Answer.{planAnswer, bufferAfter}
+use Rattle.resend.proofs.Answering.{refused-unchanged}
+use Rattle.packing.specs.Packing.{wordsOf, packAnswer}
+use Rattle.ffi_answer.specs.Answers.{none, writtenOut}
 use Rattle.ffi_card.specs.Answers.{cardOut}
 use Rattle.ffi_packet.specs.Answers.{packetOut, blockOut, comparedOut}
-use Rattle.trace.specs.declared.EventRead.the-variants.{Known, Unknown}
-use Rattle.trace.specs.Events.{eventIn}
 use Rattle.ffi_figures.specs.Answers.{figuresOut, figuresBy}
 use Rattle.ffi_tally.specs.declared.TallyNumbers.{TallyNumbers}
+use Rattle.ffi_tally.specs.declared.TallyRead.the-variants.{Unknown as Tally·Unknown}
 use Rattle.ffi_tally.specs.Answers.{tallyWith, tallyIn, openedOut, answerOut}
 use Rattle.ffi_tally.specs.Calls.{openBy, takeBy, closeBy}
 use Rattle.ffi_summary.specs.Answers.{summaryOut, blockBy}
 use Rattle.ffi_tally.proofs.Back.{tally-back}
 use Rattle.ffi_batch.specs.Answers.{lossOut, marksOut}
+use Rattle.ffi_batch.specs.Calls.{lossBy, planBy, planAfterBy}
+use Rattle.ffi_packed.specs.Calls.{packBy, packAfterBy}
 use Rattle.demands.specs.Verdicts.{ofWritten, ofCard, ofHead, ofBlock, ofCompared, ofFigures, ofSummary, ofOpened, ofTaken, ofLoss, ofPlanned}
-use Rattle.demands.specs.Orders.{when, judgedBy, figuresRows}
+use Rattle.demands.specs.Orders.{Row, when, judgedBy}
 use Rattle.demands.specs.Boundary.{shown, noEvent, AtBoundary}
-use Rattle.demands.proofs.Orders.{figures, tally-open}
+use Rattle.demands.proofs.Orders.{each-call}
 
 written-shown : (a : Written) → writtenOut a .refusal ≡ shown (ofWritten a)
 written-shown (Size n) = refl
@@ -95,38 +107,53 @@ marks-shown : (a : Planned) → marksOut a .refusal ≡ shown (ofPlanned a)
 marks-shown (Marks n) = refl
 marks-shown (Planned·Refused r) = refl
 
--- an event by its number
-figures-by : (gmin spacing : ℕ) (s : List ℕ) (n : ℕ) → figuresBy gmin spacing s (eventIn n) .refusal ≡ shown (judgedBy (when (noEvent n) setting ∷ figuresRows gmin spacing s))
+-- a call by an event's number: where every event has these rows, and no event is 15
+by-event : (call : EventRead → Refusal) (rows : List Row) → ((event : Event) → call (Known event) ≡ shown (judgedBy rows)) → call Unknown ≡ setting →
+    (n : ℕ) → call (eventIn n) ≡ shown (judgedBy (when (noEvent n) setting ∷ rows))
 unfolding eventIn judgedBy
-figures-by gmin spacing s n = go (eqb n lost) (eqb n discarded)
+by-event call rows known unknown n = go (eqb n lost) (eqb n discarded) (eqb n either)
   where
-    go : (a b : Bool) → figuresBy gmin spacing s (cond a (Known Lost) (cond b (Known Discarded) Unknown)) .refusal ≡ shown (judgedBy (when (not (a || b)) setting ∷ figuresRows gmin spacing s))
-    go true b = figures-shown (figuresIn gmin spacing Lost s) ∙ ap shown (figures gmin spacing Lost s)
-    go false true = figures-shown (figuresIn gmin spacing Discarded s) ∙ ap shown (figures gmin spacing Discarded s)
-    go false false = refl
+    go : (a b c : Bool) → call (cond a (Known Lost) (cond b (Known Discarded) (cond c (Known Either) Unknown))) ≡ shown (judgedBy (when (not (a || b || c)) setting ∷ rows))
+    go true b c = known Lost
+    go false true c = known Discarded
+    go false false true = known Either
+    go false false false = unknown
 
-open-by : (gmin spacing n : ℕ) →
-    openBy gmin spacing (eventIn n) .refusal ≡ shown (judgedBy (when (noEvent n) setting ∷ when (not (burstInRange gmin spacing)) setting ∷ []))
-unfolding eventIn judgedBy
-open-by gmin spacing n = go (eqb n lost) (eqb n discarded)
+-- and a number that is no event
+unknown : (n : ℕ) → noEvent n ≡ true → eventIn n ≡ Unknown
+unfolding eventIn
+unknown n = go (eqb n lost) (eqb n discarded) (eqb n either)
   where
-    go : (a b : Bool) → openBy gmin spacing (cond a (Known Lost) (cond b (Known Discarded) Unknown)) .refusal ≡ shown (judgedBy (when (not (a || b)) setting ∷ when (not (burstInRange gmin spacing)) setting ∷ []))
-    go true b = opened-shown (openOf gmin spacing Lost) ∙ ap shown (tally-open gmin spacing Lost)
-    go false true = opened-shown (openOf gmin spacing Discarded) ∙ ap shown (tally-open gmin spacing Discarded)
-    go false false = refl
+    go : (a b c : Bool) → not (a || b || c) ≡ true → cond a (Known Lost) (cond b (Known Discarded) (cond c (Known Either) Unknown)) ≡ Unknown
+    go true b c h = let z : _≡_ {A = ℕ} 0 1 = cc in absurd (omega arith)
+    go false true c h = let z : _≡_ {A = ℕ} 0 1 = cc in absurd (omega arith)
+    go false false true h = let z : _≡_ {A = ℕ} 0 1 = cc in absurd (omega arith)
+    go false false false h = refl
 
 no-event : (t : TallyNumbers) (packet source flag : ℕ) → noEvent (t .event) ≡ true →
     (takeBy t packet (tallyIn t) ≡ record { refusal = setting; tally = t })
     × (closeBy (tallyIn t) .refusal ≡ setting) × (blockBy source flag (tallyIn t) .refusal ≡ setting)
-unfolding eventIn
-no-event t packet source flag = go (eqb (t .event) lost) (eqb (t .event) discarded)
+no-event t packet source flag h =
+    let read : tallyIn t ≡ Tally·Unknown = ap (tallyWith t) (unknown (t .event) h) in
+    rw read (refl, refl, refl)
+
+-- where a call by an event's number refuses, the buffer that it was lent is as it was
+plan-unchanged : (s : List ℕ) (b t : ℕ) (out : List ℕ) (e : EventRead) → (planBy s b t out e .refusal ≡ none → ⊥) → planAfterBy s b t out e ≡ out
+plan-unchanged s b t out Unknown h = refl
+plan-unchanged s b t out (Known event) h = go (planAnswer (judged s) (countedAt event s) (length s) b t out) refl h
   where
-    go : (a b : Bool) → not (a || b) ≡ true →
-        let read = tallyWith t (cond a (Known Lost) (cond b (Known Discarded) Unknown)) in
-        (takeBy t packet read ≡ record { refusal = setting; tally = t }) × (closeBy read .refusal ≡ setting) × (blockBy source flag read .refusal ≡ setting)
-    go true b h = let z : _≡_ {A = ℕ} 0 1 = cc in absurd (omega arith)
-    go false true h = let z : _≡_ {A = ℕ} 0 1 = cc in absurd (omega arith)
-    go false false h = (refl, refl, refl)
+    go : (a : Planned) → planAnswer (judged s) (countedAt event s) (length s) b t out ≡ a → (marksOut a .refusal ≡ none → ⊥) →
+        bufferAfter (judged s) (countedAt event s) (length s) b t out ≡ out
+    go (Marks n) is some = absurd (some refl)
+    go (Planned·Refused r) is some = refused-unchanged _ _ _ b t out r is
+
+pack-unchanged : (s out : List ℕ) (e : EventRead) → (writtenOut (packBy s out e) .refusal ≡ none → ⊥) → packAfterBy s out e ≡ out
+pack-unchanged s out Unknown h = refl
+pack-unchanged s out (Known event) h = go (packAnswer s out) h
+  where
+    go : (a : Written) → (writtenOut a .refusal ≡ none → ⊥) → after a (wordsOf (countedAt event s) (length s)) out ≡ out
+    go (Size n) some = absurd (some refl)
+    go (Written·Refused r) some = refl
 
 pub at-boundary : AtBoundary
 at-boundary =
@@ -137,10 +164,24 @@ at-boundary =
       block = block-shown;
       compared = compared-shown;
       block-of-trace = summary-shown;
-      effective-loss = loss-shown;
-      resend-plan = marks-shown;
-      figures = figures-by;
-      tally-open = open-by;
+      packed-loss = loss-shown;
+      packed-plan = marks-shown;
+      figures =
+          λ gmin spacing s. by-event (λ e. figuresBy gmin spacing s e .refusal) _
+          (λ event. figures-shown (figuresIn gmin spacing event s) ∙ ap shown (each-call .figures gmin spacing event s)) refl;
+      tally-open =
+          λ gmin spacing. by-event (λ e. openBy gmin spacing e .refusal) _
+          (λ event. opened-shown (openOf gmin spacing event) ∙ ap shown (each-call .tally-open gmin spacing event)) refl;
+      effective-loss =
+          λ s b t. by-event (λ e. lossBy s b t e .refusal) _
+          (λ event. loss-shown (lossAnswer (judged s) (countedAt event s) (length s) b t) ∙ ap shown (each-call .effective-loss event s b t)) refl;
+      resend-plan =
+          λ s b t out. by-event (λ e. planBy s b t out e .refusal) _
+          (λ event. marks-shown (planAnswer (judged s) (countedAt event s) (length s) b t out) ∙ ap shown (each-call .resend-plan event s b t out)) refl;
+      trace-pack =
+          λ s out. by-event (λ e. writtenOut (packBy s out e) .refusal) _ (λ event. written-shown (packAnswer s out) ∙ ap shown (each-call .trace-pack s out)) refl;
+      plan-unchanged = λ s b t out n. plan-unchanged s b t out (eventIn n);
+      pack-unchanged = λ s out n. pack-unchanged s out (eventIn n);
       tally-take = λ t packet. rw (tally-back t) (taken-shown (takeOne t packet .answer));
       tally-close = λ t. rw (tally-back t) (figures-shown (closeOf t));
       tally-block = λ t source flag. rw (tally-back t) (summary-shown (summaryOf (t .event) source flag (closeOf t)));

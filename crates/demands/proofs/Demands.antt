@@ -16,9 +16,8 @@ use Rattle.card.proofs.Cases.{limits-fit}
 use Rattle.card.proofs.Damage.{changed-refused, exchanged-refused}
 use Rattle.card.proofs.RoundTrip.{read-written, written-read}
 use Rattle.frame.proofs.Filling.{past-exactly}
-use Rattle.trace.specs.declared.Event.the-variants.{Lost}
 use Rattle.trace.specs.Trace.{packetMax, traceMax, countedAt, judged}
-use Rattle.trace.proofs.Judging.{first-above, accepted-within, within-accepted}
+use Rattle.trace.proofs.Judging.{first-above, accepted-within, accepted-trace, within-accepted}
 use Rattle.chunk.proofs.Covering.{covers-exactly, uncovered-exactly, vector-bit, vector-lost, run-packets}
 use Rattle.block.proofs.RleLaws.{rle-exactly, d1-exactly, d2-exactly, d5-exactly}
 use Rattle.runs.proofs.Again.{trace-of-block, added-read}
@@ -44,6 +43,7 @@ use Rattle.demands.proofs.Packets.{packets-read, packets-written, block
 use Rattle.demands.proofs.Formulas.{as-published, never-unavailable}
 use Rattle.demands.proofs.Panels.{panels-shown}
 use Rattle.demands.proofs.Packed.{same-figures, packed-kept}
+use Rattle.demands.proofs.Choices.{choices-kept}
 
 kept : (answer : Written) (result out : List ℕ) (r : Refusal) → answer ≡ Refused r → after answer result out ≡ out
 kept answer result out r h = rw h
@@ -72,7 +72,7 @@ unchanged =
       packet-rle = λ s k out r h. kept _ _ out r h;
       packet-add-rle = λ out source begin s r h. kept _ _ out r h;
       resend-plan = λ event s b t out r h. refused-unchanged _ _ _ b t out r h;
-      trace-pack = λ s out r h. kept _ _ out r h;
+      trace-pack = λ event s out r h. kept _ _ out r h;
       trace-unpack = λ words packets out r h. kept _ _ out r h;
       packed-plan = λ words packets b t out r h. refused-unchanged _ _ _ b t out r h;
       tally-take = given-back;
@@ -124,6 +124,7 @@ demand-2 =
             shown = λ type r. record { verdict = refl; source = refl; begin = refl; end = refl; packets = refl; lost = refl };
           };
       packed-kept = packed-kept;
+      choices-kept = choices-kept;
       as-published = as-published;
       never-unavailable = never-unavailable;
       cards-guarded =
@@ -136,19 +137,19 @@ demand-2 =
     }
 
 pub demand-3 : Demand3
-demand-3 s b t out asked =
-    let d = plan-best (judged s) (countedAt Lost s) _ b t out asked in
+demand-3 event s b t out asked =
+    let d = plan-best (judged s) (countedAt event s) _ b t out asked in
     let best = d .best in
     record {
       is-plan = best .smallest .valid .plan;
-      lost-only = best .smallest .valid .lost-only;
-      none-over = few-left Lost s b t (asked .within) _ (best .smallest .valid);
+      counted-only = best .smallest .valid .lost-only;
+      none-over = few-left event s b t (asked .within) _ (best .smallest .valid);
       count = d .answer;
       fewest = best .smallest .fewest;
       first-difference = best .first-difference;
     }
 
 pub demand-3-packed : Demand3-packed
-demand-3-packed s buffer b t out without enough asked =
-    let same = same-figures s buffer b t out without enough in
-    rw (same .plan, same .bytes) (demand-3 s b t out asked)
+demand-3-packed event s buffer b t out enough asked =
+    let same = same-figures event s buffer b t out (accepted-trace s (asked .accepted)) enough in
+    rw (same .plan, same .bytes) (demand-3 event s b t out asked)

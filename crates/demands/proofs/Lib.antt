@@ -5,4 +5,5 @@ pub mod Packets
 pub mod Formulas
 pub mod Panels
 pub mod Packed
+pub mod Choices
 pub mod Demands

@@ -41,7 +41,7 @@ use Rattle.survey.specs.Survey.{listAnswer}
 use Rattle.compare.specs.Answer.{differencesOf, compareAnswer}
 use Rattle.compose.specs.Writing.{lengthAfter, lengthMax, sizeAfter, appended, appendAnswer, ownOf, addAnswer}
 use Rattle.trace.specs.declared.Event.{Event}
-use Rattle.trace.specs.declared.Event.the-variants.{Lost, Discarded}
+use Rattle.trace.specs.declared.Event.the-variants.{Lost, Discarded, Either}
 use Rattle.trace.specs.Trace.{lost, packetMax, traceMax, countedAt, packetsWithin, lengthWithin, firstAbove, judgedWithin, judged}
 use Rattle.bursts.specs.declared.FiguresRead.{FiguresRead}
 use Rattle.bursts.specs.declared.FiguresRead.the-variants.{Accepted as Figures·Accepted, Refused as Figures·Refused}
@@ -61,7 +61,7 @@ use Rattle.resend.specs.Answer.{planAnswer}
 use Rattle.packed.specs.Words.{wordsFor, oneIn}
 use Rattle.packed.specs.Judging.{pastEnd, firstPast, judgedPacked}
 use Rattle.packing.specs.Packing.{packAnswer, unpackAnswer}
-use Rattle.demands.specs.Orders.{Row, when, judgedBy, headerRows, pastRows, framesAt, blocksIn, packetRows, roomRows, ownRows, traceRowsWithin, traceRows, isRle, figuresRows, packedRows, EachCall}
+use Rattle.demands.specs.Orders.{Row, when, judgedBy, headerRows, pastRows, framesAt, blocksIn, packetRows, roomRows, ownRows, traceRowsWithin, traceRows, isRle, figuresRows, noBlock, packedRows, EachCall}
 use Rattle.demands.specs.Verdicts.{ofWritten, ofCard, ofHead, ofBlock, ofCompared, ofFigures, ofSummary, ofOpened, ofTaken, ofLoss, ofPlanned, ofLocated}
 
 -- "less" is "not at least"
@@ -254,16 +254,19 @@ figures-rows : {A : Type 0} (v : A → Judged) (gmin spacing : ℕ) (s : List �
 figures-rows v gmin spacing s refused rest n e =
     line v (burstInRange gmin spacing) setting _ _ (traceRows s) (n setting) (input v (judged s) refused rest (traceRows s) [] (trace-rows s) n e)
 
-pub figures : (gmin spacing : ℕ) (event : Event) (s : List ℕ) → ofFigures (figuresIn gmin spacing event s) ≡ judgedBy (figuresRows gmin spacing s)
+figures : (gmin spacing : ℕ) (event : Event) (s : List ℕ) → ofFigures (figuresIn gmin spacing event s) ≡ judgedBy (figuresRows gmin spacing s)
 unfolding figuresIn
 figures gmin spacing event s = figures-rows ofFigures gmin spacing s Figures·Refused _ (λ r. refl) answered
 
--- a block is answered where figures are
-summary-same : (event : Event) (source flag : ℕ) (m : FiguresRead) → ofSummary (summaryOf event source flag m) ≡ ofFigures m
-summary-same Lost source flag (Figures·Accepted f) = refl
-summary-same Lost source flag (Figures·Refused r) = refl
-summary-same Discarded source flag (Figures·Accepted f) = refl
-summary-same Discarded source flag (Figures·Refused r) = refl
+-- a block is answered where figures are, but of either
+summary-rows : (event : Event) (source flag : ℕ) (m : FiguresRead) (rows : List Row) → ofFigures m ≡ judgedBy rows →
+    ofSummary (summaryOf event source flag m) ≡ judgedBy (when (noBlock event) setting ∷ rows)
+unfolding judgedBy
+summary-rows Lost source flag (Figures·Accepted f) rows is = is
+summary-rows Lost source flag (Figures·Refused r) rows is = is
+summary-rows Discarded source flag (Figures·Accepted f) rows is = is
+summary-rows Discarded source flag (Figures·Refused r) rows is = is
+summary-rows Either source flag m rows is = refl
 
 -- batches, of an input that is judged by itself; the plan's room
 module _ (verdict : Judged) (rows : List Row) (is : verdict ≡ judgedBy rows) (lost : ℕ → Bool) (e b t : ℕ) where
@@ -292,10 +295,10 @@ packed-rows words packets =
     (at-least (λ (j : Judged). j) (wordsFor packets) (length words) bufferShort _ _ _ refl
     (at-least (λ (j : Judged). j) (length (pastEnd words packets)) (firstPast words packets) (traceByte (packets + firstPast words packets)) _ _ [] refl answered))
 
-trace-pack : (s out : List ℕ) → ofWritten (packAnswer s out) ≡ judgedBy (traceRowsWithin traceMax lost s ++ when (ltb (length out) (wordsFor (length s))) bufferShort ∷ [])
+trace-pack : (s out : List ℕ) → ofWritten (packAnswer s out) ≡ judgedBy (traceRows s ++ when (ltb (length out) (wordsFor (length s))) bufferShort ∷ [])
 unfolding packAnswer
 trace-pack s out =
-    input ofWritten (judgedWithin traceMax lost s) Written·Refused _ (traceRowsWithin traceMax lost s) _ (within-rows traceMax lost s) (λ r. refl)
+    input ofWritten (judged s) Written·Refused _ (traceRows s) _ (trace-rows s) (λ r. refl)
     (at-least ofWritten (wordsFor (length s)) (length out) bufferShort _ _ [] refl answered)
 
 trace-unpack : (words : List ℕ) (packets : ℕ) (out : List ℕ) →
@@ -306,7 +309,7 @@ trace-unpack words packets out =
     (at-least ofWritten packets (length out) bufferShort _ _ [] refl answered)
 
 -- tallies
-pub tally-open : (gmin spacing : ℕ) (event : Event) → ofOpened (openOf gmin spacing event) ≡ judgedBy (when (not (burstInRange gmin spacing)) setting ∷ [])
+tally-open : (gmin spacing : ℕ) (event : Event) → ofOpened (openOf gmin spacing event) ≡ judgedBy (when (not (burstInRange gmin spacing)) setting ∷ [])
 unfolding openOf
 tally-open gmin spacing event = line ofOpened (burstInRange gmin spacing) setting _ _ [] refl answered
 
@@ -357,7 +360,7 @@ each-call =
       trace = trace-rows;
       batch = λ s b t. batch-rows (judged s) (traceRows s) (trace-rows s) (countedAt Lost s) (length s) b t;
       figures = figures;
-      block-of-trace = λ gmin spacing event s source flag. summary-same event source flag (figuresIn gmin spacing event s) ∙ figures gmin spacing event s;
+      block-of-trace = λ gmin spacing event s source flag. summary-rows event source flag (figuresIn gmin spacing event s) (figuresRows gmin spacing s) (figures gmin spacing event s);
       effective-loss = λ event s b t. loss-rows (judged s) (traceRows s) (trace-rows s) (countedAt event s) (length s) b t;
       resend-plan = λ event s b t out. plan-rows (judged s) (traceRows s) (trace-rows s) (countedAt event s) (length s) b t out;
       trace-pack = trace-pack;
@@ -371,5 +374,5 @@ each-call =
       tally-open = tally-open;
       tally-take = tally-take;
       tally-close = tally-close;
-      tally-block = λ t source flag. summary-same (t .event) source flag (closeOf t) ∙ tally-close t;
+      tally-block = λ t source flag. summary-rows (t .event) source flag (closeOf t) _ (tally-close t);
     }

@@ -2,17 +2,15 @@
 use Prim.Native.Nat.{ℕ, _≤_}
 use mathlib.Core.Path.{_≡_, sym, ap, ap₂, _∙_}
 use mathlib.Core.List.{List}
-use native.Mathlib.Omega.{arith}
 use native.Mathlib.Nat.{zero-add}
 use lib.ListN.{length, take}
 use Rattle.refusal.specs.Answer.{after}
 use Rattle.refusal.specs.declared.Written.{Written}
 use Rattle.refusal.specs.declared.Judged.{Judged}
-use Rattle.refusal.specs.declared.Judged.the-variants.{Accepted}
-use Rattle.trace.specs.declared.Event.the-variants.{Lost}
-use Rattle.trace.specs.Trace.{lost, packetMax, traceMax, countedAt, judged}
-use Rattle.trace.specs.Laws.{IsWithin}
-use Rattle.trace.proofs.Judging.{within-accepted}
+use Rattle.trace.specs.declared.Event.{Event}
+use Rattle.trace.specs.Trace.{countedAt, judged}
+use Rattle.trace.specs.Laws.{IsTrace}
+use Rattle.trace.proofs.Judging.{trace-accepted}
 use Rattle.batch.specs.Loss.{lossAnswer}
 use Rattle.batch.proofs.Same.{same-loss}
 use Rattle.resend.specs.Answer.{planAnswer, bufferAfter}
@@ -23,21 +21,17 @@ use Rattle.packed.proofs.Laws.{accepted-packed, packed-accepted, first-past, ne
 use Rattle.packed.proofs.Bytes.{bytes-same}
 use Rattle.packing.specs.Packing.{unpackAnswer}
 use Rattle.packing.specs.Laws.{packedInto}
-use Rattle.packing.proofs.BothWays.{packed-form, pack-unpack, unpack-pack, behind-kept}
+use Rattle.packing.proofs.BothWays.{packed-form, pack-unpack, pack-back, unpack-pack, behind-kept}
 use Rattle.demands.specs.Packed.{SameFigures, NeededAlone, PackedKept}
 
--- a trace without discards is an accepted trace
-accepted : (s : List ℕ) → IsWithin traceMax lost s → judged s ≡ Accepted
-accepted s t = within-accepted traceMax packetMax s (record { some = t .some; most = t .most; each = λ i h. let each = t .each i h in omega arith })
-
-pub same-figures : (s buffer : List ℕ) (b t : ℕ) (out : List ℕ) → IsWithin traceMax lost s → wordsFor (length s) ≤ length buffer → SameFigures s (packedInto s buffer) b t out
-same-figures s buffer b t out w enough =
-    let words : List ℕ = packedInto s buffer in
-    let form = packed-form s buffer w enough in
-    let verdict : judgedPacked words (length s) ≡ judged s = packed-accepted words (length s) (form .packed) ∙ sym (accepted s w) in
-    let plans = same-plan (judged s) (oneIn words) (countedAt Lost s) (length s) b t out (form .same) in
+pub same-figures : (event : Event) (s buffer : List ℕ) (b t : ℕ) (out : List ℕ) → IsTrace s → wordsFor (length s) ≤ length buffer → SameFigures event s (packedInto event s buffer) b t out
+same-figures event s buffer b t out w enough =
+    let words : List ℕ = packedInto event s buffer in
+    let form = packed-form event s buffer w enough in
+    let verdict : judgedPacked words (length s) ≡ judged s = packed-accepted words (length s) (form .packed) ∙ sym (trace-accepted s w) in
+    let plans = same-plan (judged s) (oneIn words) (countedAt event s) (length s) b t out (form .same) in
     record {
-      loss = ap (λ (v : Judged). lossAnswer v (oneIn words) (length s) b t) verdict ∙ same-loss (judged s) (oneIn words) (countedAt Lost s) (length s) b t (form .same);
+      loss = ap (λ (v : Judged). lossAnswer v (oneIn words) (length s) b t) verdict ∙ same-loss (judged s) (oneIn words) (countedAt event s) (length s) b t (form .same);
       plan = ap (λ (v : Judged). planAnswer v (oneIn words) (length s) b t out) verdict ∙ plans .0;
       bytes = ap (λ (v : Judged). bufferAfter v (oneIn words) (length s) b t out) verdict ∙ plans .1;
     }
@@ -68,6 +62,7 @@ packed-kept =
       accepted = accepted-packed;
       accepts = packed-accepted;
       unpacked = pack-unpack;
+      back = pack-back;
       packed-again = unpack-pack;
       first-past = first-past;
       same = same-figures;

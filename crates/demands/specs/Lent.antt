@@ -43,7 +43,7 @@ pub record Unchanged : Type 0 where
       after (rleAnswer out source begin s) (grown out (rleWords source begin s)) out ≡ out
   pub resend-plan : (event : Event) (s : List ℕ) (b t : ℕ) (out : List ℕ) (r : Refusal) →
       planAnswer (judged s) (countedAt event s) (length s) b t out ≡ Planned·Refused r → bufferAfter (judged s) (countedAt event s) (length s) b t out ≡ out
-  pub trace-pack : (s out : List ℕ) (r : Refusal) → packAnswer s out ≡ Refused r → packedInto s out ≡ out
+  pub trace-pack : (event : Event) (s out : List ℕ) (r : Refusal) → packAnswer s out ≡ Refused r → packedInto event s out ≡ out
   pub trace-unpack : (words : List ℕ) (packets : ℕ) (out : List ℕ) (r : Refusal) → unpackAnswer words packets out ≡ Refused r → unpackedInto words packets out ≡ out
   pub packed-plan : (words : List ℕ) (packets b t : ℕ) (out : List ℕ) (r : Refusal) →
       planAnswer (judgedPacked words packets) (oneIn words) packets b t out ≡ Planned·Refused r → bufferAfter (judgedPacked words packets) (oneIn words) packets b t out ≡ out

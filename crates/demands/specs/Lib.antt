@@ -8,5 +8,6 @@ pub mod Formulas
 pub mod Panels
 pub mod Runs
 pub mod Packed
+pub mod Choices
 pub mod Cards
 pub mod Demands

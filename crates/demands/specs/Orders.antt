@@ -30,6 +30,7 @@ use Rattle.survey.specs.Survey.{listAnswer}
 use Rattle.compare.specs.Answer.{differencesOf, compareAnswer}
 use Rattle.compose.specs.Writing.{newAnswer, lengthAfter, lengthMax, sizeAfter, addAnswer}
 use Rattle.trace.specs.declared.Event.{Event}
+use Rattle.trace.specs.declared.Event.the-variants.{Lost, Discarded, Either}
 use Rattle.trace.specs.Trace.{lost, packetMax, traceMax, countedAt, packetsWithin, lengthWithin, firstAbove, judged}
 use Rattle.tally.specs.declared.Tally.{Tally}
 use Rattle.tally.specs.Tally.{openOf, sound, takeOne, closeOf}
@@ -117,6 +118,12 @@ isRle (Block·Refused r) = false
 abbrev pub figuresRows : ℕ → ℕ → List ℕ → List Row
 figuresRows gmin spacing s = when (not (burstInRange gmin spacing)) setting ∷ traceRows s
 
+-- 15 of a block: "Blocks 17 and 18 keep their own events", so that either is a setting outside its range
+abbrev pub noBlock : Event → Bool
+noBlock Lost = false
+noBlock Discarded = false
+noBlock Either = true
+
 -- and to batches
 abbrev pub batchRows : List ℕ → ℕ → ℕ → List Row
 batchRows s b t = when (not (batchInRange limits b t)) setting ∷ (traceRows s ++ when (ltb (length s) b) batchLength ∷ [])
@@ -171,13 +178,13 @@ pub record EachCall : Type 0 where
   pub batch : (s : List ℕ) (b t : ℕ) → judgedFor (judged s) (length s) b t ≡ judgedBy (batchRows s b t)
   pub figures : (gmin spacing : ℕ) (event : Event) (s : List ℕ) → ofFigures (figuresIn gmin spacing event s) ≡ judgedBy (figuresRows gmin spacing s)
   pub block-of-trace : (gmin spacing : ℕ) (event : Event) (s : List ℕ) (source flag : ℕ) →
-      ofSummary (summaryOf event source flag (figuresIn gmin spacing event s)) ≡ judgedBy (figuresRows gmin spacing s)
+      ofSummary (summaryOf event source flag (figuresIn gmin spacing event s)) ≡ judgedBy (when (noBlock event) setting ∷ figuresRows gmin spacing s)
   pub effective-loss : (event : Event) (s : List ℕ) (b t : ℕ) →
       ofLoss (lossAnswer (judged s) (countedAt event s) (length s) b t) ≡ judgedBy (batchRows s b t)
   pub resend-plan : (event : Event) (s : List ℕ) (b t : ℕ) (out : List ℕ) →
       ofPlanned (planAnswer (judged s) (countedAt event s) (length s) b t out) ≡ judgedBy (batchRows s b t ++ when (ltb (length out) (length s)) bufferShort ∷ [])
-  -- packed traces: "converting from bytes counts 2 as bad"; "8 for the room to write"
-  pub trace-pack : (s out : List ℕ) → ofWritten (packAnswer s out) ≡ judgedBy (traceRowsWithin traceMax lost s ++ when (ltb (length out) (wordsFor (length s))) bufferShort ∷ [])
+  -- packed traces: "packing no longer refuses 2"; "8 for the room to write"
+  pub trace-pack : (s out : List ℕ) → ofWritten (packAnswer s out) ≡ judgedBy (traceRows s ++ when (ltb (length out) (wordsFor (length s))) bufferShort ∷ [])
   pub packed : (words : List ℕ) (packets : ℕ) → judgedPacked words packets ≡ judgedBy (packedRows words packets)
   pub packed-batch : (words : List ℕ) (packets b t : ℕ) → judgedFor (judgedPacked words packets) packets b t ≡ judgedBy (packedBatchRows words packets b t)
   pub trace-unpack : (words : List ℕ) (packets : ℕ) (out : List ℕ) →
@@ -194,7 +201,7 @@ pub record EachCall : Type 0 where
       ofTaken (takeOne t packet .answer)
       ≡ judgedBy (when (not (sound t)) setting ∷ when (leb traceMax (t .sums .packets)) traceLength ∷ when (ltb packetMax packet) (traceByte 0) ∷ [])
   pub tally-close : (t : Tally) → ofFigures (closeOf t) ≡ judgedBy (when (not (sound t)) setting ∷ [])
-  pub tally-block : (t : Tally) (source flag : ℕ) → ofSummary (summaryOf (t .event) source flag (closeOf t)) ≡ judgedBy (when (not (sound t)) setting ∷ [])
+  pub tally-block : (t : Tally) (source flag : ℕ) → ofSummary (summaryOf (t .event) source flag (closeOf t)) ≡ judgedBy (when (noBlock (t .event)) setting ∷ when (not (sound t)) setting ∷ [])
 
 -- What the conditions say that are computed above: 6 is given exactly where a block runs past the end, placed at the first
 -- such block's offset; 9 is placed at the first bad byte; and an accepted trace has 1 to 65,536 bytes, each 0, 1 or 2, or with other
