@@ -1,6 +1,6 @@
 //! "The trace and its figures": the burst figures of a whole trace, once from the events'
 //! positions and the formulas, once in a single pass. The variance is that of document 02's
-//! ticket 3. Refusals in order: 15, 10, 9.
+//! ticket 3, and the events are those of its ticket 7. Refusals in order: 15, 10, 9.
 
 use crate::block::{Block, Discard, Loss};
 use crate::refusal::Refusal;
@@ -64,7 +64,7 @@ pub fn running_figures(
     if trace.is_empty() || trace.len() > trace::MOST_PACKETS {
         return Err(Refusal::TRACE_LENGTH);
     }
-    let counted = event.byte();
+    let counted = event.bits();
     let mut sums = Sums {
         packets: trace.len() as u64,
         ..Sums::default()
@@ -75,7 +75,7 @@ pub fn running_figures(
         if *byte > 2 {
             return Err(Refusal::trace_byte(position));
         }
-        if *byte != counted {
+        if *byte & counted == 0 {
             continue;
         }
         let position = position as u64;
@@ -204,7 +204,7 @@ fn capped(number: u64) -> u16 {
 /// Where the events stand.
 pub(crate) fn positions(trace: &[u8], event: Event) -> Vec<u64> {
     (0..trace.len())
-        .filter(|position| trace[*position] == event.byte())
+        .filter(|position| event.counts(trace[*position]))
         .map(|position| position as u64)
         .collect()
 }

@@ -1,5 +1,6 @@
-//! "Effective loss (document 002)": once over every batch in full, once with the losses of
-//! a batch carried on to the next. Refusals in order: 15, 10, 9, 14.
+//! "Effective loss (document 002)", of what document 02's ticket 7 lets count as a loss: once over
+//! every batch in full, once with the counted packets of a batch carried on to the next.
+//! Refusals in order: 15, 10, 9, 14.
 
 use crate::refusal::Refusal;
 use crate::trace::{self, Event};
@@ -18,11 +19,16 @@ pub struct EffectiveLoss {
 }
 
 /// The effective loss of `trace`, each batch counted by itself.
-pub fn effective_loss(trace: &[u8], batch: u64, threshold: u64) -> Result<EffectiveLoss, Refusal> {
+pub fn effective_loss(
+    trace: &[u8],
+    batch: u64,
+    threshold: u64,
+    event: Event,
+) -> Result<EffectiveLoss, Refusal> {
     check(trace, batch, threshold)?;
     let over: Vec<bool> = trace
         .windows(batch as usize)
-        .map(|batch| losses(batch) > threshold)
+        .map(|batch| counted(batch, event) > threshold)
         .collect();
     let count = over.iter().filter(|over| **over).count();
     Ok(answer(
@@ -32,44 +38,47 @@ pub fn effective_loss(trace: &[u8], batch: u64, threshold: u64) -> Result<Effect
     ))
 }
 
-/// The same in one pass after the checks: a batch has the losses of the batch before it,
-/// and those of the packet that comes, less those of the packet that leaves.
+/// The same in one pass after the checks: a batch has the counted packets of the batch before
+/// it, and the packet that comes if it counts, less the one that leaves if that does.
 pub fn running_effective_loss(
     trace: &[u8],
     batch: u64,
     threshold: u64,
+    event: Event,
 ) -> Result<EffectiveLoss, Refusal> {
     check(trace, batch, threshold)?;
     let (first, after) = trace.split_at(batch as usize);
+    let bits = event.bits();
+    let one = |byte: &u8| i32::from(byte & bits != 0);
     let changes = trace
         .iter()
         .zip(after)
-        .map(|(left, come)| i32::from(is_lost(*come)) - i32::from(is_lost(*left)));
-    let lost = losses(first) as i32;
-    Ok(carried_on(lost, changes, threshold as i32))
+        .map(|(left, come)| one(come) - one(left));
+    let counted = first.iter().map(one).sum();
+    Ok(carried_on(counted, changes, threshold as i32))
 }
 
-/// The answer for a first batch with so many lost and as many more batches as there are changes,
-/// each with the losses of the batch before it and its change.
+/// The answer for a first batch with so many counted packets and as many more batches as there
+/// are changes, each with those of the batch before it and its change.
 #[inline]
 pub(crate) fn carried_on(
-    mut lost: i32,
+    mut counted: i32,
     mut changes: impl ExactSizeIterator<Item = i32>,
     threshold: i32,
 ) -> EffectiveLoss {
     let batches = changes.len() as u64 + 1;
     let mut first = 0;
-    while lost <= threshold {
+    while counted <= threshold {
         let Some(change) = changes.next() else {
             return answer(0, batches, None);
         };
-        lost += change;
+        counted += change;
         first += 1;
     }
     let mut over = 1;
     for change in changes {
-        lost += change;
-        over += u32::from(lost > threshold);
+        counted += change;
+        over += u32::from(counted > threshold);
     }
     answer(u64::from(over), batches, Some(first))
 }
@@ -84,13 +93,9 @@ pub(crate) fn check(trace: &[u8], batch: u64, threshold: u64) -> Result<(), Refu
     Ok(())
 }
 
-/// "Discarded packets do not count."
-pub(crate) fn is_lost(byte: u8) -> bool {
-    byte == Event::Lost.byte()
-}
-
-fn losses(batch: &[u8]) -> u64 {
-    batch.iter().filter(|byte| is_lost(**byte)).count() as u64
+/// The counted packets of a batch.
+fn counted(batch: &[u8], event: Event) -> u64 {
+    batch.iter().filter(|byte| event.counts(**byte)).count() as u64
 }
 
 fn answer(over: u64, batches: u64, first: Option<usize>) -> EffectiveLoss {

@@ -16,7 +16,7 @@ pub fn take(tally: Tally, byte: u8) -> (Tally, Result<(), Refusal>) {
     }
     let mut next = tally;
     next.seen += 1;
-    if byte != tally.event.byte() {
+    if !tally.event.counts(byte) {
         next.open_gap += 1;
         return (next, Ok(()));
     }

@@ -1,29 +1,44 @@
 //! "Pack the trace" (document 02, ticket 6): "64-bit words, packet i in word i / 64 at bit
-//! i modulo 64, one meaning lost, bits past the end zero". The two conversions take eight packets
-//! at a time; effective loss and the plan take the words one bit after another.
+//! i modulo 64", "bits past the end zero". By ticket 7 they have "a one for each packet counted by
+//! the choice" they were packed by, and do not keep the choice. The two conversions take eight
+//! packets at a time; effective loss and the plan take the words one bit after another.
 
 use crate::effective::{self, EffectiveLoss};
 use crate::refusal::Refusal;
-use crate::trace::{self, MOST_PACKETS};
+use crate::trace::{self, Event, MOST_PACKETS};
 
 /// The packets of a word.
 const WORD: usize = 64;
+/// The lowest bit of each of eight bytes.
+const LOWEST: u64 = 0x0101_0101_0101_0101;
 
 /// Writes the words of `trace` at the front of `out` and answers their number. Words past them
 /// keep what they held, and all do where refused.
-/// Refusals in order: 10, 9 ("converting from bytes counts 2 as bad"), 8.
+/// Refusals in order: 10, 9 (ticket 7: "packing no longer refuses 2"), 8.
 #[inline]
-pub fn pack(trace: &[u8], out: &mut [u64]) -> Result<usize, Refusal> {
-    trace::check_up_to(trace, MOST_PACKETS, 1)?;
+pub fn pack(trace: &[u8], event: Event, out: &mut [u64]) -> Result<usize, Refusal> {
+    trace::check(trace)?;
     let needed = trace.len().div_ceil(WORD);
     let words = out.get_mut(..needed).ok_or(Refusal::BUFFER_SHORT)?;
-    for (packets, word) in trace.chunks(WORD).zip(words) {
-        *word = match packets.try_into() {
-            Ok(packets) => gather(packets),
-            Err(_) => gather(&padded(packets)),
-        };
+    // Of the bytes 0, 1 and 2 a lost packet's has the lowest bit, a discarded one's the next.
+    match event {
+        Event::Lost => fill(trace, words, |eight| eight),
+        Event::Discarded => fill(trace, words, |eight| eight >> 1),
+        Event::Either => fill(trace, words, |eight| eight | eight >> 1),
     }
     Ok(needed)
+}
+
+/// Writes the words of packets of which `counted` gives, eight by eight, the lowest bit of each
+/// byte: one where the packet counts.
+#[inline]
+fn fill(trace: &[u8], words: &mut [u64], counted: impl Fn(u64) -> u64) {
+    for (packets, word) in trace.chunks(WORD).zip(words) {
+        *word = match packets.try_into() {
+            Ok(packets) => gather(packets, &counted),
+            Err(_) => gather(&padded(packets), &counted),
+        };
+    }
 }
 
 /// The last packets with received ones after them: "bits past the end zero".
@@ -33,11 +48,12 @@ fn padded(packets: &[u8]) -> [u8; WORD] {
     padded
 }
 
-/// The word of 64 packets, each 0 or 1.
+/// The word of 64 packets.
 #[inline]
-fn gather(packets: &[u8; WORD]) -> u64 {
+fn gather(packets: &[u8; WORD], counted: impl Fn(u64) -> u64) -> u64 {
     packets.chunks_exact(8).fold(0, |word, eight| {
         let eight = u64::from_le_bytes(eight.try_into().expect("eight bytes"));
+        let eight = counted(eight) & LOWEST;
         // Adds the number moved up by 7, 14 and so on to 56. The top byte then has bit 0, 8 and
         // so on to 56 of the number, the first lowest, and no two bits meet, so that none carries.
         let bits = eight.wrapping_mul(0x0102_0408_1020_4080) >> 56;
@@ -45,8 +61,8 @@ fn gather(packets: &[u8; WORD]) -> u64 {
     })
 }
 
-/// Writes the trace of `packets` packets, 0 received and 1 lost, at the front of `out` and
-/// answers their number. Bytes past them keep what they held, and all do where refused.
+/// Writes the trace of `packets` packets, 1 for each one and 0 for the rest, at the front of `out`
+/// and answers their number. Bytes past them keep what they held, and all do where refused.
 /// Refusals in order: 10, 8 for the words, 9, 8 for the room.
 #[inline]
 pub fn unpack(words: &[u64], packets: usize, out: &mut [u8]) -> Result<usize, Refusal> {
@@ -88,8 +104,8 @@ static EIGHT: [[u8; 8]; 256] = {
     table
 };
 
-/// The effective loss of the trace of `packets` packets in `words`, the losses of a batch carried
-/// on to the next. Refusals in order: 15, 10, 8, 9, 14.
+/// The effective loss of the trace of `packets` packets in `words`, which counts its ones, those of
+/// a batch carried on to the next. Refusals in order: 15, 10, 8, 9, 14.
 pub fn packed_loss(
     words: &[u64],
     packets: usize,
@@ -98,9 +114,9 @@ pub fn packed_loss(
 ) -> Result<EffectiveLoss, Refusal> {
     let words = check(words, packets, batch, threshold)?;
     let batch = batch as usize;
-    let lost = |packet| lost(words, packet) as i32;
-    let changes = (batch..packets).map(|come| lost(come) - lost(come - batch));
-    let first = (0..batch).map(lost).sum();
+    let one = |packet| bit(words, packet) as i32;
+    let changes = (batch..packets).map(|come| one(come) - one(come - batch));
+    let first = (0..batch).map(one).sum();
     Ok(effective::carried_on(first, changes, threshold as i32))
 }
 
@@ -118,18 +134,18 @@ pub fn packed_plan(
     let plan = out.get_mut(..packets).ok_or(Refusal::BUFFER_SHORT)?;
     let batch = batch as usize;
     let mut marks = 0;
-    // The losses without a mark among the B − 1 packets before this one.
+    // The ones without a mark among the B − 1 packets before this one.
     let mut left = 0;
     for packet in 0..packets {
         if let Some(gone) = packet.checked_sub(batch) {
-            left -= lost(words, gone) - u64::from(plan[gone]);
+            left -= bit(words, gone) - u64::from(plan[gone]);
         }
-        let lost = lost(words, packet);
-        // One loss more would put their batch over the threshold.
-        let mark = if left == threshold { lost } else { 0 };
+        let one = bit(words, packet);
+        // One more would put their batch over the threshold.
+        let mark = if left == threshold { one } else { 0 };
         plan[packet] = mark as u8;
         marks += mark as usize;
-        left += lost - mark;
+        left += one - mark;
     }
     Ok(marks)
 }
@@ -164,9 +180,9 @@ fn needed(words: &[u64], packets: usize) -> Result<&[u64], Refusal> {
     Ok(words)
 }
 
-/// 1 if a packet is lost, otherwise 0.
+/// The bit of a packet.
 #[inline]
-fn lost(words: &[u64], packet: usize) -> u64 {
+fn bit(words: &[u64], packet: usize) -> u64 {
     words[packet / WORD] >> (packet % WORD) & 1
 }
 

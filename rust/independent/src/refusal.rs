@@ -33,7 +33,7 @@ impl Refusal {
     pub const CARD_FIELD: Refusal = Refusal::without_place(13);
     /// batch longer than the trace
     pub const BATCH_LONG: Refusal = Refusal::without_place(14);
-    /// a setting outside its range, or a tally not sound
+    /// a setting outside its range, either for a block among them, or a tally not sound
     pub const SETTING: Refusal = Refusal::without_place(15);
     /// block 17 or 18 to write has a flag other than 1, 2 or 3, or a rate that reading would drop
     pub const BLOCK_TO_WRITE: Refusal = Refusal::without_place(16);
@@ -49,8 +49,8 @@ impl Refusal {
     }
 
     /// trace byte above 2, or such a byte given to a tally; above 1 in a trace to write as
-    /// type 1 or to pack; its place is the first bad byte's index in a trace; a nonzero bit past
-    /// the end of a packed trace, at the bit's index
+    /// type 1; its place is the first bad byte's index in a trace; a nonzero bit past the end of
+    /// a packed trace, at the bit's index
     pub const fn trace_byte(index: usize) -> Refusal {
         Refusal {
             number: 9,

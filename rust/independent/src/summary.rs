@@ -1,8 +1,9 @@
 //! "For block 17 the events are the lost packets, for block 18 the discarded": the block that
-//! reports a trace or a tally. Refusals of a trace in order: 15, 10, 9; of a tally: 15.
+//! reports a trace or a tally. By document 02's ticket 7 the two "keep their own events", so that
+//! no block reports either. Refusals of a trace in order: 15, 10, 9; of a tally: 15.
 
 use crate::block::Block;
-use crate::burst::{self, Figures};
+use crate::burst;
 use crate::refusal::Refusal;
 use crate::tally::Tally;
 use crate::trace::Event;
@@ -16,7 +17,7 @@ pub fn loss_of_trace(
     flag: u8,
 ) -> Result<Block, Refusal> {
     let figures = burst::running_figures(trace, gmin, spacing, Event::Lost)?;
-    Ok(block_for(Event::Lost, &figures, source, flag))
+    Ok(burst::loss_block(&figures, source, flag))
 }
 
 /// Block 18 with the figures of its discarded packets.
@@ -28,22 +29,18 @@ pub fn discard_of_trace(
     flag: u8,
 ) -> Result<Block, Refusal> {
     let figures = burst::running_figures(trace, gmin, spacing, Event::Discarded)?;
-    Ok(block_for(Event::Discarded, &figures, source, flag))
+    Ok(burst::discard_block(&figures, source, flag))
 }
 
-/// The block with the figures that closing `tally` gives.
+/// The block with the figures that closing `tally` gives. For a block, either is a setting
+/// outside its range: 15, as for a tally that is not sound.
 #[inline]
 pub fn of_tally(tally: Tally, source: u32, flag: u8) -> Result<Block, Refusal> {
     let figures = tally.close()?;
-    Ok(block_for(tally.event, &figures, source, flag))
-}
-
-/// The block whose events these are.
-#[inline]
-fn block_for(event: Event, figures: &Figures, source: u32, flag: u8) -> Block {
-    match event {
-        Event::Lost => burst::loss_block(figures, source, flag),
-        Event::Discarded => burst::discard_block(figures, source, flag),
+    match tally.event {
+        Event::Lost => Ok(burst::loss_block(&figures, source, flag)),
+        Event::Discarded => Ok(burst::discard_block(&figures, source, flag)),
+        Event::Either => Err(Refusal::SETTING),
     }
 }
 

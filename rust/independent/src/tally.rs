@@ -1,6 +1,6 @@
 //! "The trace and its figures": a tally, which takes packets one after another. Its closing
 //! gives the figures of the packets it took. The last line of its soundness is that of document
-//! 02's ticket 3. Refusals in order: 15, 10, 9.
+//! 02's ticket 3, and what it counts is the choice of ticket 7. Refusals in order: 15, 10, 9.
 
 use crate::burst::{self, Figures, Sums};
 use crate::refusal::Refusal;
@@ -65,7 +65,7 @@ impl Tally {
         }
         let mut next = self;
         next.seen += 1;
-        if byte == self.event.byte() {
+        if self.event.counts(byte) {
             next.take_event();
         } else if self.open_events > 0 {
             next.take_other();

@@ -8,20 +8,35 @@ use std::ops::RangeInclusive;
 /// "From 1 to 65,536 packets."
 pub const MOST_PACKETS: usize = 65_536;
 
-/// The kind of packet that counts: "for block 17 the events are the lost packets, for
-/// block 18 the discarded; all others count as received".
+/// What counts: "for block 17 the events are the lost packets, for block 18 the discarded; all
+/// others count as received", and by document 02's ticket 7 "the caller chooses what counts as a
+/// loss: lost only, discarded only, or either".
 #[derive(Debug, Clone, Copy, PartialEq, Eq)]
 pub enum Event {
     Lost,
     Discarded,
+    Either,
 }
 
 impl Event {
-    /// The trace byte of such a packet.
-    pub fn byte(self) -> u8 {
+    /// Whether a packet with this trace byte counts.
+    #[inline]
+    pub fn counts(self, byte: u8) -> bool {
+        match self {
+            Event::Lost => byte == 1,
+            Event::Discarded => byte == 2,
+            Event::Either => byte == 1 || byte == 2,
+        }
+    }
+
+    /// The bits of which a byte that counts has one. Of the bytes of an accepted trace no other
+    /// has, so that a loop over packets tests each without a branch on the choice.
+    #[inline]
+    pub(crate) fn bits(self) -> u8 {
         match self {
             Event::Lost => 1,
             Event::Discarded => 2,
+            Event::Either => 1 | 2,
         }
     }
 }

@@ -1,6 +1,8 @@
+mod choices;
 mod variance;
 
 use super::*;
+use crate::choices::EVENTS;
 use crate::compose;
 use Event::{Discarded, Lost};
 
@@ -118,7 +120,7 @@ fn both_forms_agree_on_all_short_traces() {
         for number in 0..3_usize.pow(length) {
             let trace = digits_of(number, length);
             for gmin in 1..=4 {
-                for event in [Lost, Discarded] {
+                for event in EVENTS {
                     both(&trace, gmin, 700, event).unwrap();
                 }
             }
@@ -148,13 +150,13 @@ fn means_at_the_limit() {
 #[test]
 fn refusals_in_order() {
     let bad = [0, 3, 0, 4];
-    for (gmin, spacing) in [(0, 1), (256, 1), (1, 0), (1, 40_001), (u64::MAX, 1)] {
-        for trace in [&bad[..], &[], &[1]] {
-            let answer = both(trace, gmin, spacing, Lost);
-            assert_eq!(answer, Err(Refusal::SETTING));
+    for event in EVENTS {
+        for (gmin, spacing) in [(0, 1), (256, 1), (1, 0), (1, 40_001), (u64::MAX, 1)] {
+            for trace in [&bad[..], &[], &[1]] {
+                let answer = both(trace, gmin, spacing, event);
+                assert_eq!(answer, Err(Refusal::SETTING));
+            }
         }
-    }
-    for event in [Lost, Discarded] {
         let longer = vec![3; 65_537];
         assert_eq!(both(&[], 1, 1, event), Err(Refusal::TRACE_LENGTH));
         assert_eq!(both(&longer, 1, 1, event), Err(Refusal::TRACE_LENGTH));

@@ -1,5 +1,6 @@
 use super::*;
-use Event::{Discarded, Lost};
+use crate::choices::EVENTS;
+use Event::{Either, Lost};
 
 /// Step by step from an opened tally.
 fn fed(trace: &[u8], gmin: u64, spacing: u64, event: Event) -> Tally {
@@ -34,6 +35,11 @@ fn by_hand() {
     let tally = fed(&[1, 1, 0, 0, 0, 1], 2, 1_000, Lost);
     assert_eq!((tally.bursts, tally.burst_packets), (1, 2));
     assert_eq!((tally.duration_sum, tally.duration_squares), (2, 4));
+    // A discarded packet carries the stretch on where either counts.
+    let tally = fed(&[1, 0, 2, 0, 0], 2, 1_000, Either);
+    assert_eq!((tally.events, tally.bursts), (2, 0));
+    let stretch = [tally.open_events, tally.open_packets, tally.open_gap];
+    assert_eq!(stretch, [2, 3, 2]);
 }
 
 /// All traces of up to eight packets: the steps lead to the closed form, which closes with
@@ -45,7 +51,7 @@ fn steps_and_closed_form() {
             let digit = |place| (number / 3_u32.pow(place) % 3) as u8;
             let trace: Vec<u8> = (0..length).map(digit).collect();
             for gmin in 1..=3 {
-                for event in [Lost, Discarded] {
+                for event in EVENTS {
                     let tally = fed(&trace, gmin, 700, event);
                     assert_eq!(tally, of_trace(&trace, gmin, 700, event), "{trace:?}");
                     assert!(tally.sound(), "{trace:?}");

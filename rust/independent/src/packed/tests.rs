@@ -1,6 +1,9 @@
+mod choices;
 mod figures;
 
 use super::*;
+use crate::choices::EVENTS;
+use Event::{Discarded, Either, Lost};
 
 /// A trace from its digits.
 fn trace(digits: &str) -> Vec<u8> {
@@ -13,11 +16,12 @@ fn losing(length: usize, lost: &[usize]) -> Vec<u8> {
     (0..length).map(byte).collect()
 }
 
-/// "Packet i in word i / 64 at bit i modulo 64, one meaning lost, bits past the end zero."
-fn plain(trace: &[u8]) -> Vec<u64> {
+/// "Packet i in word i / 64 at bit i modulo 64", "a one for each packet counted by the choice it
+/// was packed by", "bits past the end zero".
+fn plain(trace: &[u8], event: Event) -> Vec<u64> {
     let mut words = vec![0; trace.len().div_ceil(64)];
     for (i, byte) in trace.iter().enumerate() {
-        if *byte == 1 {
+        if event.counts(*byte) {
             words[i / 64] |= 1 << (i % 64);
         }
     }
@@ -28,16 +32,19 @@ fn plain(trace: &[u8]) -> Vec<u64> {
 const HELD: u64 = 0xA5A5_5A5A_0F0F_F0F0;
 
 /// The call with room for `length` words, and the words after it.
-fn lent(trace: &[u8], length: usize) -> (Result<usize, Refusal>, Vec<u64>) {
+fn lent(trace: &[u8], event: Event, length: usize) -> (Result<usize, Refusal>, Vec<u64>) {
     let mut out = vec![HELD; length];
-    let answer = pack(trace, &mut out);
+    let answer = pack(trace, event, &mut out);
     (answer, out)
 }
 
-/// Refused whatever the room, and nothing is written.
+/// Refused by every choice, whatever the room, and nothing is written.
 fn not_packed(trace: &[u8], refusal: Refusal) {
-    for length in [0, 1, 2, 1_025] {
-        assert_eq!(lent(trace, length), (Err(refusal), vec![HELD; length]));
+    for event in EVENTS {
+        for length in [0, 1, 2, 1_025] {
+            let unchanged = (Err(refusal), vec![HELD; length]);
+            assert_eq!(lent(trace, event, length), unchanged);
+        }
     }
 }
 
@@ -50,20 +57,33 @@ fn not_unpacked(words: &[u64], packets: usize, refusal: Refusal) {
     }
 }
 
-/// The words of a trace, which both conversions give with just enough room or more, and refuse
-/// with less. Words past those needed are not read.
-fn both_ways(trace: &[u8]) -> Vec<u64> {
-    let (words, packets) = (plain(trace), trace.len());
+/// The words of a trace by this choice, which packing gives with just enough room or more, and
+/// refuses with less.
+fn packed(trace: &[u8], event: Event) -> Vec<u64> {
+    let words = plain(trace, event);
     for more in [0, 1, 9] {
         let held = [&words[..], &vec![HELD; more]].concat();
-        assert_eq!(lent(trace, held.len()), (Ok(words.len()), held.clone()));
+        assert_eq!(lent(trace, event, held.len()), (Ok(words.len()), held));
+    }
+    for less in [0, words.len() - 1] {
+        let unchanged = (Err(Refusal::BUFFER_SHORT), vec![HELD; less]);
+        assert_eq!(lent(trace, event, less), unchanged);
+    }
+    words
+}
+
+/// The words of a trace without discards, by lost only and by either, which unpacking turns back
+/// with just enough room or more, and refuses with less. Words past those needed are not read.
+fn both_ways(trace: &[u8]) -> Vec<u64> {
+    let (words, packets) = (packed(trace, Lost), trace.len());
+    assert_eq!(packed(trace, Either), words);
+    for more in [0, 1, 9] {
+        let held = [&words[..], &vec![HELD; more]].concat();
         let mut out = vec![0xA5; packets + more];
         assert_eq!(unpack(&held, packets, &mut out), Ok(packets));
         assert_eq!(out, [trace, &vec![0xA5; more]].concat());
     }
     for less in [0, words.len() - 1] {
-        let unchanged = (Err(Refusal::BUFFER_SHORT), vec![HELD; less]);
-        assert_eq!(lent(trace, less), unchanged);
         not_unpacked(&words[..less], packets, Refusal::BUFFER_SHORT);
     }
     for less in [0, packets / 2, packets - 1] {
@@ -97,6 +117,16 @@ impl Numbers {
         (0..packets)
             .map(|_| u8::from(self.below(100) < percent))
             .collect()
+    }
+
+    /// The same, some of those lost discarded instead.
+    fn mixed(&mut self, packets: usize) -> Vec<u8> {
+        let percent = [0, 10, 50, 100][self.below(4)];
+        let mut trace = self.trace(packets);
+        for byte in trace.iter_mut().filter(|byte| **byte == 1) {
+            *byte += u8::from(self.below(100) < percent);
+        }
+        trace
     }
 }
 
@@ -158,7 +188,10 @@ fn random_traces_and_words() {
         }
         let mut out = vec![0xA5; packets];
         assert_eq!(unpack(&words, packets, &mut out), Ok(packets));
-        assert_eq!(lent(&out, words.len()), (Ok(words.len()), words));
+        for event in [Lost, Either] {
+            let there_and_back = (Ok(words.len()), words.clone());
+            assert_eq!(lent(&out, event, words.len()), there_and_back);
+        }
     }
 }
 
@@ -171,7 +204,7 @@ fn from_1_to_65_536_packets() {
     assert_eq!(both_ways(&losing(65_535, &[65_534]))[1_023], 1 << 62);
     for packets in [0, 65_537, 65_600, 131_072] {
         // 10 comes before 9 and 8.
-        for byte in [0, 2] {
+        for byte in [0, 2, 3] {
             not_packed(&vec![byte; packets], Refusal::TRACE_LENGTH);
         }
     }
@@ -182,20 +215,23 @@ fn from_1_to_65_536_packets() {
     }
 }
 
-/// "Converting from bytes counts 2 as bad", at the first such byte and before the room.
+/// A byte above 2, at the first such byte and before the room: "packing no longer refuses 2".
 #[test]
-fn bytes_above_1() {
-    for byte in 2..=255 {
+fn bytes_above_2() {
+    for byte in 3..=255 {
         for (place, packets) in [(0, 1), (2, 5), (63, 64), (64, 65), (100, 300)] {
             let mut trace = vec![1; packets];
             trace[place] = byte;
             not_packed(&trace, Refusal::trace_byte(place));
             trace[place..].fill(byte);
             not_packed(&trace, Refusal::trace_byte(place));
+            // A 2 before it is not the first bad byte.
+            trace[..place].fill(2);
+            not_packed(&trace, Refusal::trace_byte(place));
         }
     }
-    let mut longest = vec![1; 65_536];
-    longest[65_535] = 2;
+    let mut longest = vec![2; 65_536];
+    longest[65_535] = 3;
     not_packed(&longest, Refusal::trace_byte(65_535));
 }
 

@@ -1,8 +1,9 @@
 use super::*;
 use crate::block::{Discard, Loss};
 use crate::burst::{OVER_RANGE, UNAVAILABLE};
+use crate::choices::EVENTS;
 use crate::compose;
-use Event::{Discarded, Lost};
+use Event::{Discarded, Either, Lost};
 
 /// A trace from its digits.
 fn trace(digits: &str) -> Vec<u8> {
@@ -163,19 +164,40 @@ fn refusals_of_traces_in_order() {
     }
 }
 
+/// "Blocks 17 and 18 keep their own events": a tally that counts either is closed, and has no
+/// block, whatever it took and whatever the flag.
+#[test]
+fn a_tally_of_either_has_no_block() {
+    for digits in ["", "0", "1", "2", "111", "222", "1212", "10100100011"] {
+        let tally = taken(&trace(digits), 2, 1_000, Either);
+        assert!(tally.close().is_ok());
+        for flag in 0..=u8::MAX {
+            assert_eq!(of_tally(tally, 7, flag), Err(Refusal::SETTING));
+        }
+    }
+}
+
 #[test]
 fn a_tally_that_is_not_sound() {
-    for event in [Lost, Discarded] {
+    for event in EVENTS {
         let sound = taken(&[1, 2, 1, 2], 3, 1_000, event);
-        assert!(of_tally(sound, 7, 0).is_ok());
-        let (mut settings, mut since, mut squares) = (sound, sound, sound);
+        assert_eq!(of_tally(sound, 7, 0).is_ok(), event != Either);
+        let (mut settings, mut since) = (sound, sound);
         settings.gmin = 256;
         since.open_gap = 5;
-        // The open 3 ms and 2 ms more make n 2 and S 5: 2 × 13 is at least 25, 2 × 12 is not.
-        (squares.bursts, squares.burst_packets) = (1, 1);
-        (squares.duration_sum, squares.duration_squares) = (2, 4);
-        assert!(of_tally(squares, 7, 0).is_ok());
-        squares.duration_squares = 3;
+        // 3 ms and 2 ms make n 2 and S 5: 2 × 13 is at least 25, 2 × 12 is not.
+        let mut squares = Tally {
+            seen: 9,
+            events: 4,
+            burst_packets: 5,
+            burst_events: 4,
+            bursts: 2,
+            duration_sum: 5,
+            duration_squares: 13,
+            ..taken(&[], 3, 1_000, event)
+        };
+        assert_eq!(of_tally(squares, 7, 0).is_ok(), event != Either);
+        squares.duration_squares = 12;
         for unsound in [settings, since, squares] {
             for flag in [0, 1, 3, 255] {
                 assert_eq!(of_tally(unsound, 7, flag), Err(Refusal::SETTING));

@@ -1,9 +1,11 @@
+mod choices;
 mod hostile;
 mod last_line;
 
 use super::*;
 use crate::burst::{figures, UNAVAILABLE};
-use Event::{Discarded, Lost};
+use crate::choices::EVENTS;
+use Event::{Discarded, Either, Lost};
 
 const NOTHING: Figures = Figures {
     burst_rate: UNAVAILABLE,
@@ -96,7 +98,7 @@ fn opening_checks_its_settings() {
         (u64::MAX, u64::MAX, false),
     ];
     for (gmin, spacing, good) in settings {
-        for event in [Lost, Discarded] {
+        for event in EVENTS {
             match Tally::open(gmin, spacing, event) {
                 Ok(tally) => assert!(good && tally.sound() && tally.event == event),
                 Err(refusal) => assert!(!good && refusal == Refusal::SETTING),
@@ -148,7 +150,7 @@ fn closing_equals_the_formulas_on_all_short_traces() {
             .map(|place| (number / 3_usize.pow(place) % 3) as u8)
             .collect();
         for gmin in 1..=4 {
-            for event in [Lost, Discarded] {
+            for event in EVENTS {
                 follow(&trace, gmin, 700, event);
             }
         }
@@ -170,8 +172,9 @@ fn closing_equals_the_formulas_on_longer_traces() {
                 }
             })
             .collect();
-        follow(&trace, gmin, spacing, Lost);
-        follow(&trace, gmin, spacing, Discarded);
+        for event in EVENTS {
+            follow(&trace, gmin, spacing, event);
+        }
     }
 }
 

@@ -1,4 +1,5 @@
 use super::*;
+use crate::choices::EVENTS;
 
 #[test]
 fn refusals_have_the_table_numbers_and_places() {
@@ -6,6 +7,26 @@ fn refusals_have_the_table_numbers_and_places() {
     assert_eq!((length.number, length.place), (10, 0));
     let byte = Refusal::trace_byte(24);
     assert_eq!((byte.number, byte.place), (9, 24));
+}
+
+/// "Lost only, discarded only, or either": of all bytes only 1 and 2 ever count.
+#[test]
+fn what_counts() {
+    for byte in 0..=255 {
+        let counted = EVENTS.map(|event| event.counts(byte));
+        let expected = match byte {
+            1 => [true, false, true],
+            2 => [false, true, true],
+            _ => [false; 3],
+        };
+        assert_eq!(counted, expected, "{byte}");
+    }
+    // In an accepted trace the bits tell the same.
+    for byte in 0..=2 {
+        for event in EVENTS {
+            assert_eq!(byte & event.bits() != 0, event.counts(byte));
+        }
+    }
 }
 
 #[test]

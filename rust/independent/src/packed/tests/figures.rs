@@ -20,17 +20,25 @@ fn figures(words: &[u64], packets: usize, batch: u64, threshold: u64) -> (Effect
     (loss, out)
 }
 
-/// Both answers "are the same from the packed form as from the byte form".
-fn same(trace: &[u8], batch: u64, threshold: u64) {
-    let (loss, ours) = figures(&plain(trace), trace.len(), batch, threshold);
-    assert_eq!(running_effective_loss(trace, batch, threshold), Ok(loss));
+/// Both answers "are the same from the packed form as from the byte form", by the choice that the
+/// words were packed by.
+pub(super) fn same_by(trace: &[u8], batch: u64, threshold: u64, event: Event) {
+    let words = plain(trace, event);
+    let (loss, ours) = figures(&words, trace.len(), batch, threshold);
+    let running = running_effective_loss(trace, batch, threshold, event);
+    assert_eq!(running, Ok(loss));
     // The batches one by one, where they are few.
     if trace.len() <= 300 {
-        assert_eq!(effective_loss(trace, batch, threshold), Ok(loss));
+        assert_eq!(effective_loss(trace, batch, threshold, event), Ok(loss));
     }
     let mut out = vec![0xA5; trace.len()];
-    plan(trace, batch, threshold, &mut out).unwrap();
+    plan(trace, batch, threshold, event, &mut out).unwrap();
     assert_eq!(ours, out, "{trace:?}, B {batch}, T {threshold}");
+}
+
+/// By lost only.
+fn same(trace: &[u8], batch: u64, threshold: u64) {
+    same_by(trace, batch, threshold, Lost);
 }
 
 /// Refused by both calls, the plan's whatever the room, and nothing is written.
@@ -80,7 +88,7 @@ fn about_a_whole_word() {
         (65, 63, 62),
     ];
     for (packets, batch, marked) in cases {
-        let words = plain(&vec![1; packets]);
+        let words = plain(&vec![1; packets], Lost);
         let batches = packets as u64 - batch + 1;
         let plan = losing(packets, &[marked]);
         let sheet = (batches, batches, 65_535, Some(0), &plan[..]);
@@ -158,7 +166,8 @@ fn random_traces() {
         };
         let (batch, threshold) = (batch as u64, threshold.min(1_024) as u64);
         same(&trace, batch, threshold);
-        let loss = packed_loss(&plain(&trace), packets, batch, threshold).unwrap();
+        let words = plain(&trace, Lost);
+        let loss = packed_loss(&words, packets, batch, threshold).unwrap();
         over += usize::from(loss.over > 0 && loss.over < loss.batches);
     }
     // Enough with some batches over and some not.
