@@ -13,7 +13,7 @@ import sys
 sys.dont_write_bytecode = True  # a run leaves no files in the tree
 import document01
 import document02
-from document01 import DISCARDED, LOST, Refused
+from document01 import COUNTED, DISCARDED, LOST, Refused
 
 PROGRAM = ["cargo", "run", "--offline", "--quiet", "--example", "cases"]
 SHOWN_BYTES, SHOWN_ENTRIES, SHOWN_NUMBERS = 64, 16, 100
@@ -40,8 +40,8 @@ NUMBERS = {
     "figures": ("event gmin spacing LEN", "trace"), "tally": ("event gmin spacing LEN", "trace"),
     "loss17": ("gmin spacing source flag LEN", "trace"), "discard18": ("gmin spacing source flag LEN", "trace"),
     "close": (TALLY, None), "tallyblock": (TALLY + " source flag", None), "take": (TALLY + " packet", None),
-    "loss": ("B T LEN", "trace"), "plan": ("B T ROOM LEN", "trace"),
-    "pack": ("WORDS LEN", "trace"), "unpack": ("packets ROOM WORDS", "words"),
+    "loss": ("event B T LEN", "trace"), "plan": ("event B T ROOM LEN", "trace"),
+    "pack": ("event WORDS LEN", "trace"), "unpack": ("packets ROOM WORDS", "words"),
     "packedloss": ("packets B T WORDS", "words"), "packedplan": ("packets B T ROOM WORDS", "words"),
 }
 # Type, whether a flag comes first, and where the rates stand.
@@ -70,7 +70,7 @@ def parsed(line):
         no_case_if(not rest)
         digits, *rest = rest[0].split(" ", 1)
         no_case_if(not digits.isascii() or not digits.isdigit() or int(digits) > LIMITS.get(field, 4294967295))
-        no_case_if(field == "event" and int(digits) not in (1, 2))
+        no_case_if(field == "event" and int(digits) not in COUNTED)
         numbers.append(int(digits))
     text = rest[0] if rest else ""
     no_case_if(rest and not text)
@@ -190,7 +190,8 @@ def lending(word, numbers, data):
         return filled([HELD] * numbers[0], lambda: document02.differences(*data, numbers[0]),
                       lambda front: f"differences {len(front) // 5}", shown_numbers)
     if word == "pack":
-        return filled([HELD] * numbers[0], lambda: document02.packed(data, numbers[0]), lambda front: f"words {len(front)}", shown_words)
+        event, room, _ = numbers
+        return filled([HELD] * room, lambda: document02.packed(event, data, room), lambda front: f"words {len(front)}", shown_words)
     if word == "unpack":
         packets, room, _ = numbers
         return filled([HELD] * room, lambda: document02.unpacked(data, packets, room),
@@ -198,8 +199,8 @@ def lending(word, numbers, data):
     if word == "packedplan":
         *given, room, _ = numbers
         return filled([HELD] * room, lambda: document02.packed_plan(data, *given, room), marks_of, shown_plan)
-    batch, threshold, room, _ = numbers
-    return filled([HELD] * room, lambda: document01.plan(batch, threshold, data, room), marks_of, shown_plan)
+    *given, room, _ = numbers
+    return filled([HELD] * room, lambda: document01.plan(*given, data, room), marks_of, shown_plan)
 
 
 def asking(word, numbers, data):
@@ -217,7 +218,7 @@ def asking(word, numbers, data):
     if word == "card":
         return document01.card(data)
     if word == "loss":
-        return document01.loss(numbers[0], numbers[1], data)
+        return document01.loss(*numbers[:3], data)
     if word == "packedloss":
         return document02.packed_loss(data, *numbers[:3])
     if word == "figures":

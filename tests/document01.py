@@ -1,5 +1,5 @@
 """Document 01 computed a second time, by its definitions alone, for tests/cases.py; the variance and the last line of a sound
-tally are those of document 02, ticket 3, and blocks of type 1 read as ticket 5 has it.
+tally are those of document 02, ticket 3, blocks of type 1 read as ticket 5 has it, and the caller chooses what counts, by ticket 7.
 
 Each function answers as the paper's paragraph of its name has it; a call that says no raises Refused with the number and
 place of the table "When the set says no". Speed does not matter here: plans are searched for, batches counted one by one.
@@ -14,9 +14,9 @@ WORDS = {14: 7, 17: 3, 18: 2, 240: 2, 241: 11}
 # The words after the first, as struct has them; 2x stands for 16 reserved bits.
 LAYOUTS = {14: "I2xHIIIII", 17: "IHHHH", 18: "IHH", 240: "IH2x", 241: "IHHI8I"}
 UNAVAILABLE, OVER_RANGE, GREATEST = 65535, 65534, 65533
-MOST_PACKETS = 65536
-MOST_DURATION = 2621440
-LOST, DISCARDED = 1, 2  # the events, by the packets of a trace that they count
+MOST_PACKETS, MOST_DURATION = 65536, 2621440
+LOST, DISCARDED, EITHER = 1, 2, 3  # the events
+COUNTED = {LOST: (1,), DISCARDED: (2,), EITHER: (1, 2)}  # the packets of a trace that they count
 
 
 class Refused(Exception):
@@ -186,6 +186,11 @@ def accepted(trace):
         refuse_if(packet > 2, 9, place)
 
 
+def counted(event, trace):
+    """The trace as lost and received packets alone: 1 for each packet that counts, 0 for each other."""
+    return bytes(packet in COUNTED[event] for packet in trace)
+
+
 def groups(positions, gmin):
     """Positions of events cut where at least Gmin packets stand between two."""
     cut = []
@@ -203,7 +208,7 @@ def duration(packets, spacing):
 
 def sums(trace, event, gmin, spacing):
     """E, L, Eb, Lb, n, S, Q of a trace."""
-    positions = [at for at, packet in enumerate(trace) if packet == event]
+    positions = [at for at, packet in enumerate(trace) if packet in COUNTED[event]]
     bursts = [group for group in groups(positions, gmin) if len(group) >= 2]
     lengths = [group[-1] - group[0] + 1 for group in bursts]
     times = [duration(length, spacing) for length in lengths]
@@ -290,7 +295,8 @@ def close(gmin, spacing, counts):
 
 
 def block_of_tally(event, gmin, spacing, counts, source, flag):
-    refuse_if(not sound(gmin, spacing, counts), 15)
+    """Document 02, ticket 7: "Blocks 17 and 18 keep their own events", so that none has either: a setting outside its range."""
+    refuse_if(not sound(gmin, spacing, counts) or event == EITHER, 15)
     return summary_text(event, with_stretch(spacing, counts), source, flag)
 
 
@@ -300,7 +306,7 @@ def take(event, gmin, spacing, counts, packet):
     refuse_if(counts[0] == MOST_PACKETS, 10)
     refuse_if(packet > 2, 9)
     E, L, Eb, Lb, n, S, Q, events, packets, since = counts
-    if packet != event:
+    if packet not in COUNTED[event]:
         return E + 1, L, Eb, Lb, n, S, Q, events, packets, since + 1
     if events and since < gmin:
         return E + 1, L + 1, Eb, Lb, n, S, Q, events + 1, packets + since + 1, 0
@@ -316,43 +322,40 @@ def batch_trace(batch, threshold, trace):
     refuse_if(batch > len(trace), 14)
 
 
-def loss(batch, threshold, trace):
+def loss(event, batch, threshold, trace):
     batch_trace(batch, threshold, trace)
-    N = len(trace) - batch + 1
-    over = [at for at in range(N) if trace.count(1, at, at + batch) > threshold]
+    N, ones = len(trace) - batch + 1, counted(event, trace)
+    over = [at for at in range(N) if ones.count(1, at, at + batch) > threshold]
     return f"over {len(over)} of {N} index {len(over) * 65535 // N} first {over[0] if over else 'none'}"
 
 
-def plan(batch, threshold, trace, room):
+def plan(event, batch, threshold, trace, room):
     """Demand 3's plan, by search where the trace is short, and by shortest paths."""
     batch_trace(batch, threshold, trace)
     refuse_if(room < len(trace), 8)
-    found = by_paths(batch, threshold, trace)
-    if len(trace) <= 16 and by_search(batch, threshold, trace) != found:
-        raise AssertionError(f"two plans for {batch} {threshold} {list(trace)}")
+    ones = counted(event, trace)
+    found = by_paths(batch, threshold, ones)
+    assert len(trace) > 16 or by_search(batch, threshold, ones) == found, "two plans"
     return found
 
 
-def by_search(batch, threshold, trace):
-    """All plans that mark lost packets only, fewest marks first: of the first that leave no batch over the threshold, the
+def by_search(batch, threshold, ones):
+    """All plans that mark counted packets only, fewest marks first: of the first that leave no batch over the threshold, the
     one that has no mark where another first differs from it, which is the least as a list."""
-    lost = [at for at, packet in enumerate(trace) if packet == 1]
-    batches = [set(range(at, at + batch)) for at in range(len(trace) - batch + 1)]
-    for count in range(len(lost) + 1):
-        good = []
-        for marks in itertools.combinations(lost, count):
-            left = set(lost) - set(marks)
-            if all(len(left & some) <= threshold for some in batches):
-                good.append(bytes(at in marks for at in range(len(trace))))
+    places = [at for at, one in enumerate(ones) if one]
+    batches = [set(places).intersection(range(at, at + batch)) for at in range(len(ones) - batch + 1)]
+    for count in range(len(places) + 1):
+        plans = itertools.combinations(places, count)
+        good = [marks for marks in plans if all(len(some.difference(marks)) <= threshold for some in batches)]
         if good:
-            return min(good)
+            return min(bytes(at in marks for at in range(len(ones))) for marks in good)
 
 
-def by_paths(batch, threshold, trace):
-    """Let x(i) be the losses left without a mark among the first i packets. A plan is good exactly when x(0) = 0,
-    0 <= x(i + 1) - x(i) <= 1 for a lost packet i and 0 for another, and x(i + B) - x(i) <= T. Such differences have a
-    greatest solution, the distances from 0 over steps of these lengths: it leaves most losses in all, and in each prefix."""
-    size = len(trace)
+def by_paths(batch, threshold, ones):
+    """Let x(i) be the counted packets left without a mark among the first i. A plan is good exactly when x(0) = 0,
+    0 <= x(i + 1) - x(i) <= 1 for a counted packet i and 0 for another, and x(i + B) - x(i) <= T. Such differences have a
+    greatest solution, the distances from 0 over steps of these lengths: it leaves most packets in all, and in each prefix."""
+    size = len(ones)
     distance = [None] * (size + 1)
     waiting = [(0, 0)]
     while waiting:
@@ -363,11 +366,11 @@ def by_paths(batch, threshold, trace):
         if at > 0:
             heapq.heappush(waiting, (so_far, at - 1))
         if at < size:
-            heapq.heappush(waiting, (so_far + (trace[at] == 1), at + 1))
+            heapq.heappush(waiting, (so_far + ones[at], at + 1))
         if at + batch <= size:
             heapq.heappush(waiting, (so_far + threshold, at + batch))
     left = [distance[at + 1] - distance[at] for at in range(size)]
-    return bytes((trace[at] == 1) - left[at] for at in range(size))
+    return bytes(ones[at] - left[at] for at in range(size))
 
 
 # The settings card
@@ -392,6 +395,5 @@ def written_card(settings, room):
     refuse_if(not in_range(settings), 15)
     refuse_if(room < 20, 8)
     payload = "{:03}{:05}{:05}{:05}".format(*settings)
-    checks = [check for check in range(2, 99) if int(f"{payload}{check:02}") % 97 == 1]
-    assert len(checks) == 1
-    return f"{payload}{checks[0]:02}".encode()
+    check, = [check for check in range(2, 99) if int(f"{payload}{check:02}") % 97 == 1]
+    return f"{payload}{check:02}".encode()

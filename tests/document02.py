@@ -1,11 +1,13 @@
-"""Document 02's tickets 1, 4, 5 and 6 computed a second time, by their definitions alone, over document 01's (document01.py)."""
+"""Document 02's tickets 1, 4, 5 and 6 computed a second time, by their definitions alone, over document 01's (document01.py).
+Packed traces are those of ticket 7."""
 
 import itertools
 import struct
 
 import document01
 import loss_rle
-from document01 import LAYOUTS, MOST_PACKETS, UNAVAILABLE, WORDS, Refused, measured_sources, number_at, packet_blocks, reason, refuse_if
+from document01 import (LAYOUTS, LOST, MOST_PACKETS, UNAVAILABLE, WORDS, Refused, measured_sources, number_at, packet_blocks, reason,
+                        refuse_if)
 
 
 # Ticket 1: two packets compared
@@ -120,27 +122,25 @@ def with_trace(buffer, source, begin, trace):
     return buffer[:2] + struct.pack(">H", length) + buffer[4:4 * words] + added
 
 
-# Ticket 6: packed traces, as lists of words
+# Tickets 6 and 7: packed traces, as lists of words
 
 WORD = 64
 
 
-def packed(trace, room):
-    """The words of a trace, for which there is so much room: "packet i in word i / 64 at bit i modulo 64, one meaning lost, bits past
-    the end zero"; "converting from bytes counts 2 as bad"."""
-    refuse_if(not 1 <= len(trace) <= MOST_PACKETS, 10)
-    for place, packet in enumerate(trace):
-        refuse_if(packet > 1, 9, place)
+def packed(event, trace, room):
+    """The words of a trace, for which there is so much room: "packet i in word i / 64 at bit i modulo 64", "bits past the end zero",
+    and by ticket 7 "a one for each packet counted by the choice"; "packing no longer refuses 2"."""
+    document01.accepted(trace)
     words = [0] * -(-len(trace) // WORD)
     refuse_if(room < len(words), 8)
-    for place, packet in enumerate(trace):
-        words[place // WORD] += packet * 2 ** (place % WORD)
+    for place, one in enumerate(document01.counted(event, trace)):
+        words[place // WORD] += one * 2 ** (place % WORD)
     return words
 
 
 def packets_in(words, packets):
-    """The trace of so many packets. Refused with 10, "8 for a word slice too short to read", and "9 at the index, counted on from the
-    packets, of the first nonzero bit past the end in the last needed word"."""
+    """The trace of so many packets, 1 for each one. Refused with 10, "8 for a word slice too short to read", and "9 at the index,
+    counted on from the packets, of the first nonzero bit past the end in the last needed word"."""
     refuse_if(not 1 <= packets <= MOST_PACKETS, 10)
     needed = -(-packets // WORD)
     refuse_if(len(words) < needed, 8)
@@ -158,12 +158,13 @@ def unpacked(words, packets, room):
 
 
 def packed_loss(words, packets, batch, threshold):
-    """Effective loss, "the same from the packed form as from the byte form", but that 15 comes before the words."""
+    """Effective loss, "the same from the packed form as from the byte form", but that 15 comes before the words. It counts the
+    ones, which stand as 1 in their trace."""
     document01.batch_settings(batch, threshold)
-    return document01.loss(batch, threshold, packets_in(words, packets))
+    return document01.loss(LOST, batch, threshold, packets_in(words, packets))
 
 
 def packed_plan(words, packets, batch, threshold, room):
-    """The plan, "still written a byte a packet"."""
+    """The plan, "still written a byte a packet", in the same way."""
     document01.batch_settings(batch, threshold)
-    return document01.plan(batch, threshold, packets_in(words, packets), room)
+    return document01.plan(LOST, batch, threshold, packets_in(words, packets), room)
