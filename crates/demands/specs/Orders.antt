@@ -114,15 +114,15 @@ isRle (Found type Unknown) = false
 isRle (Found type (Dropped reason)) = false
 isRle (Block·Refused r) = false
 
--- of "Traces: 15, 10, 9, 14, 8" what applies to burst figures
-abbrev pub figuresRows : ℕ → ℕ → List ℕ → List Row
-figuresRows gmin spacing s = when (not (burstInRange gmin spacing)) setting ∷ traceRows s
-
 -- 15 of a block: "Blocks 17 and 18 keep their own events", so that either is a setting outside its range
 abbrev pub noBlock : Event → Bool
 noBlock Lost = false
 noBlock Discarded = false
 noBlock Either = true
+
+-- of "Traces: 15, 10, 9, 14, 8" what applies to burst figures
+abbrev pub figuresRows : ℕ → ℕ → List ℕ → List Row
+figuresRows gmin spacing s = when (not (burstInRange gmin spacing)) setting ∷ traceRows s
 
 -- and to batches
 abbrev pub batchRows : List ℕ → ℕ → ℕ → List Row
