@@ -684,7 +684,7 @@ static inline const char *nuvaskoe_refusal_advice(uint32_t number)
     case NUVASKOE_REFUSAL_BATCH_LENGTH:
         return "measure longer, or take a smaller batch";
     case NUVASKOE_REFUSAL_SETTING:
-        return "Gmin 1 to 255, batch 1 to 1,024, threshold 0 to 1,024, spacing 1 to 40,000; a tally is used as it was handed out; a block is of lost or of discarded packets, not of either";
+        return "Gmin 1 to 255, batch 1 to 1,024, threshold 0 to 1,024, spacing 1 to 40,000, event 1 to 3; a tally is used as it was handed out; a block is of lost or of discarded packets, not of either";
     case NUVASKOE_REFUSAL_BLOCK_VALUE:
         return "flag 1 to 3, rates 0 to 32,768 or 65,535";
     case NUVASKOE_REFUSAL_PACKET_FULL:

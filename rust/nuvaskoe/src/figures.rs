@@ -22,8 +22,9 @@ pub struct Figures {
     pub variance: Figure,
 }
 
-/// The figures of a whole trace: those of a [tally](crate::tally::Tally) that took all its
-/// packets. Gmin is 1 to 255 packets, spacing 1 to 40,000 microseconds.
+/// The figures of a whole trace, with the packets that `event` counts as its events: those of a
+/// [tally](crate::tally::Tally) that took all its packets. Gmin is 1 to 255 packets, spacing 1 to
+/// 40,000 microseconds.
 ///
 /// Refusals, in this order: 15, 10, 9 (placed at the index of the first byte above 2).
 ///
@@ -33,6 +34,12 @@ pub struct Figures {
 /// let figures = figures::of_trace(&[1, 0, 1, 0, 0, 1, 0, 0, 0, 1, 1], 2, 1_000, Event::Lost)?;
 /// assert_eq!((figures.burst_rate, figures.gap_rate), (Rate(26_214), Rate(5_461)));
 /// assert_eq!((figures.mean, figures.variance), (Figure(2), Figure(0)));
+///
+/// // A lost packet and a late one close to it are a burst of either, and of neither alone.
+/// let rate = |event| figures::of_trace(&[1, 2, 0, 0], 2, 1_000, event).map(|of| of.burst_rate);
+/// assert_eq!(rate(Event::Either)?, Rate::ALL);
+/// assert_eq!(rate(Event::Lost)?, Rate::UNAVAILABLE);
+/// assert_eq!(rate(Event::Discarded)?, Rate::UNAVAILABLE);
 /// # Ok::<(), nuvaskoe::Refusal>(())
 /// ```
 pub fn of_trace(trace: &[u8], gmin: u32, spacing: u32, event: Event) -> Result<Figures, Refusal> {
@@ -115,8 +122,8 @@ impl Figures {
     }
 
     /// The block 17 with these figures, whatever the flag: [`crate::packet::add`] takes 1, 2
-    /// and 3. Nothing looks at where the figures come from, so that those of discarded packets
-    /// are taken as well: a block that was measured comes from [`loss_of_trace`] or
+    /// and 3. Nothing looks at where the figures come from, so that those of other events are
+    /// taken as well: a block that was measured comes from [`loss_of_trace`] or
     /// [`Tally::block`](crate::tally::Tally::block).
     #[inline]
     pub fn loss_block(&self, source: u32, flag: u8) -> Block {

@@ -1,14 +1,15 @@
-//! Packed traces: one bit a packet in 64-bit words, for traces of received and lost packets.
+//! Packed traces: one bit a packet in 64-bit words, which says whether the packet is counted.
 //!
-//! Packet `i` is in word `i / 64` at bit `i % 64`, counted from the lowest: 1 lost, 0 received; a
-//! discarded packet has no form here. So many packets need a word for each 64, and the bits of the
+//! Packet `i` is in word `i / 64` at bit `i % 64`, counted from the lowest: 1 where the [`Event`]
+//! that the trace was packed by counts it, 0 for any other. The words do not keep which event that
+//! was: their ones are the losses. So many packets need a word for each 64, and the bits of the
 //! last needed word that are past the end are 0. Words behind it are neither read nor changed.
 //!
 //! The refusals of the words, in this order: 10, `packets` is 0 or over 65,536; 8, there are fewer
 //! words than the packets need; 9, a bit past the end is not 0, placed at the first such bit,
 //! which is counted on from the packets.
 
-use crate::{boundary, effective::EffectiveLoss, Refusal};
+use crate::{boundary, effective::EffectiveLoss, trace::Event, Refusal};
 
 /// The packets of a word.
 const WORD: usize = 64;
@@ -22,41 +23,49 @@ pub fn words_for(packets: usize) -> usize {
     packets.div_ceil(WORD)
 }
 
-/// Packs `trace` into the front of `out` and answers how many words it takes; the words after them
-/// keep what they held.
+/// Packs `trace` into the front of `out`, a one for each packet that `event` counts, and answers
+/// how many words it takes; the words after them keep what they held.
 ///
-/// Refusals, in this order: 10, a trace of none or over 65,536 packets; 9, a byte other than 0 and
-/// 1, placed at the first, so that 2, a discarded packet, is refused too; 8, `out` has fewer words
-/// than the packets need.
+/// Refusals, in this order: 10, a trace of none or over 65,536 packets; 9, a byte above 2, placed
+/// at the first; 8, `out` has fewer words than the packets need.
 ///
 /// ```
+/// use nuvaskoe::{packed::pack, trace::Event};
+///
+/// let trace = [0, 1, 1, 0, 2, 0, 1, 0, 2];
 /// let mut out = [7; 2];
-/// assert_eq!(nuvaskoe::packed::pack(&[0, 1, 1, 0, 1, 0, 1, 0, 0], &mut out)?, 1);
-/// assert_eq!(out, [0b101_0110, 7]);
+/// assert_eq!(pack(&trace, Event::Lost, &mut out)?, 1);
+/// assert_eq!(out, [0b0_0100_0110, 7]);
+/// pack(&trace, Event::Discarded, &mut out)?;
+/// assert_eq!(out, [0b1_0001_0000, 7]);
+/// pack(&trace, Event::Either, &mut out)?;
+/// assert_eq!(out, [0b1_0101_0110, 7]);
 /// # Ok::<(), nuvaskoe::Refusal>(())
 /// ```
 #[inline]
-pub fn pack(trace: &[u8], out: &mut [u64]) -> Result<usize, Refusal> {
+pub fn pack(trace: &[u8], event: Event, out: &mut [u64]) -> Result<usize, Refusal> {
+    let (start, length) = (trace.as_ptr(), trace.len());
+    let (out, room) = (out.as_mut_ptr(), out.len());
     // SAFETY: a slice's pointer is never null and is good for reading its length, and
     // `out` lends all its length for writing.
-    let answer = unsafe {
-        boundary::nuvaskoe_trace_pack(trace.as_ptr(), trace.len(), out.as_mut_ptr(), out.len())
-    };
+    let answer = unsafe { boundary::nuvaskoe_trace_pack(start, length, event.number(), out, room) };
     answer.size()
 }
 
-/// The words of `trace` in a vector of their own.
+/// The words of `trace`, packed by `event`, in a vector of their own.
 ///
 /// Refusals, in this order: 10 and 9 as of [`pack`].
-pub fn words_of(trace: &[u8]) -> Result<Vec<u64>, Refusal> {
+pub fn words_of(trace: &[u8], event: Event) -> Result<Vec<u64>, Refusal> {
     let mut words = vec![0; words_for(trace.len())];
-    let size = pack(trace, &mut words)?;
+    let size = pack(trace, event, &mut words)?;
     debug_assert_eq!(size, words.len());
     Ok(words)
 }
 
-/// Unpacks the words of so many packets into the front of `out`, one byte a packet, 0 received and
-/// 1 lost, and answers `packets`; the bytes after them keep what they held.
+/// Unpacks the words of so many packets into the front of `out`, one byte a packet, 1 for each one
+/// and 0 for each zero, and answers `packets`; the bytes after them keep what they held. It is the
+/// trace that was packed, where that had no discarded packets and was packed by [`Event::Lost`] or
+/// [`Event::Either`].
 ///
 /// Refusals, in this order: those of the words, then 8, `out` has fewer bytes than there are
 /// packets.
@@ -97,8 +106,8 @@ pub fn trace_of(words: &[u64], packets: usize) -> Result<Vec<u8>, Refusal> {
     Ok(trace)
 }
 
-/// The effective loss of a packed trace:
-/// [that of the trace](crate::effective::effective_loss) which it unpacks to.
+/// The effective loss of a packed trace, with its ones as the losses:
+/// [that of the trace](crate::effective::effective_loss) which was packed, by the same event.
 ///
 /// Refusals, in this order: 15, `batch` not 1 to 1,024 or `threshold` over 1,024; those of the
 /// words; 14, a batch longer than the trace.
@@ -123,8 +132,8 @@ pub fn effective_loss(
 }
 
 /// Writes the smallest resend plan for a packed trace into the front of `out` and answers how many
-/// packets it marks: [the plan](crate::resend::plan) for the trace which it unpacks to, one byte a
-/// packet. The bytes after it keep what they held.
+/// packets it marks: [the plan](crate::resend::plan) for the trace which was packed, by the same
+/// event, one byte a packet. The bytes after it keep what they held.
 ///
 /// Refusals, in this order: 15, those of the words and 14 as of [`effective_loss`], then 8, `out`
 /// has fewer bytes than there are packets.

@@ -116,7 +116,7 @@ impl RefusalKind {
             RefusalKind::CardCheck => "a digit is wrong, or two are exchanged: compare with the master card",
             RefusalKind::CardField => "Gmin 1 to 255, batch 1 to 1,024, threshold 0 to 1,024, spacing 1 to 40,000",
             RefusalKind::BatchLength => "measure longer, or take a smaller batch",
-            RefusalKind::Setting => "Gmin 1 to 255, batch 1 to 1,024, threshold 0 to 1,024, spacing 1 to 40,000; a tally is used as it was handed out; a block is of lost or of discarded packets, not of either",
+            RefusalKind::Setting => "Gmin 1 to 255, batch 1 to 1,024, threshold 0 to 1,024, spacing 1 to 40,000, event 1 to 3; a tally is used as it was handed out; a block is of lost or of discarded packets, not of either",
             RefusalKind::BlockValue => "flag 1 to 3, rates 0 to 32,768 or 65,535",
             RefusalKind::PacketFull => "begin another",
         }

@@ -1,26 +1,40 @@
-//! The resend plan: the fewest lost packets to resend so that no batch of a trace is left
+//! The resend plan: the fewest counted packets to resend so that no batch of a trace is left
 //! with more losses than a threshold.
 //!
-//! Traces and batches are those of [`effective`](crate::effective). [`packed`](crate::packed) has
-//! the same of a trace with one bit a packet.
+//! Traces, losses and batches are those of [`effective`](crate::effective).
+//! [`packed`](crate::packed) has the same of a trace with one bit a packet.
 
-use crate::{boundary, Refusal};
+use crate::{boundary, trace::Event, Refusal};
 
 /// Writes the smallest plan for `trace` into the front of `out` and answers how many packets
-/// it marks. It has one byte a packet, 1 for a lost packet to resend and 0 for any other; the
-/// bytes after it keep what they held.
+/// it marks. It has one byte a packet, 1 for a packet to resend that `event` counts and 0 for any
+/// other; the bytes after it keep what they held.
 ///
 /// Refusals, in this order: 15, 10, 9 and 14 as for
 /// [`effective_loss`](crate::effective::effective_loss), then 8, `out` is shorter than `trace`.
 ///
 /// ```
+/// use nuvaskoe::{resend::plan, trace::Event};
+///
 /// let mut out = [7; 10];
-/// let marks = nuvaskoe::resend::plan(&[0, 1, 1, 0, 1, 0, 1, 0, 0], 3, 1, &mut out)?;
+/// let marks = plan(&[0, 1, 1, 0, 1, 0, 1, 0, 0], 3, 1, Event::Lost, &mut out)?;
 /// assert_eq!(marks, 2);
+/// assert_eq!(out, [0, 0, 1, 0, 0, 0, 1, 0, 0, 7]);
+///
+/// // The last two losses are late packets, which are resent too where they count.
+/// let late = [0, 1, 1, 0, 2, 0, 2, 0, 0];
+/// assert_eq!(plan(&late, 3, 1, Event::Lost, &mut out)?, 1);
+/// assert_eq!(plan(&late, 3, 1, Event::Either, &mut out)?, 2);
 /// assert_eq!(out, [0, 0, 1, 0, 0, 0, 1, 0, 0, 7]);
 /// # Ok::<(), nuvaskoe::Refusal>(())
 /// ```
-pub fn plan(trace: &[u8], batch: u32, threshold: u32, out: &mut [u8]) -> Result<usize, Refusal> {
+pub fn plan(
+    trace: &[u8],
+    batch: u32,
+    threshold: u32,
+    event: Event,
+    out: &mut [u8],
+) -> Result<usize, Refusal> {
     // SAFETY: a slice's pointer is never null and is good for reading its length, and
     // `out` lends all its length for writing.
     let answer = unsafe {
@@ -29,6 +43,7 @@ pub fn plan(trace: &[u8], batch: u32, threshold: u32, out: &mut [u8]) -> Result<
             trace.len(),
             batch,
             threshold,
+            event.number(),
             out.as_mut_ptr(),
             out.len(),
         )

@@ -129,7 +129,7 @@ impl Tally {
     /// tally that counts lost packets, [`Block::Discard`] of one that counts discarded ones.
     /// [`crate::packet::add`] does not refuse it with 16 where the flag is 1, 2 or 3.
     ///
-    /// Refusal: 15.
+    /// Refusal: 15, also of a tally that counts [either](Event::Either): no block has its events.
     ///
     /// ```
     /// use nuvaskoe::{block::Block, tally::Tally, trace::Event, values::Rate};
@@ -142,6 +142,8 @@ impl Tally {
     /// };
     /// assert_eq!((discard.source, discard.flag), (7, 3));
     /// assert_eq!((discard.burst_rate, discard.gap_rate), (Rate::UNAVAILABLE, Rate::ALL));
+    /// let either = Tally::open(16, 1_000, Event::Either)?;
+    /// assert_eq!(either.block(7, 3).unwrap_err().number(), 15);
     /// # Ok::<(), nuvaskoe::Refusal>(())
     /// ```
     #[inline]
