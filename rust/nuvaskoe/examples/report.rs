@@ -2,7 +2,7 @@
 //! the packet's blocks listed, and how many packets to resend. It asserts what it prints.
 
 use nuvaskoe::block::{Block, Effective, Measurement, Verdict};
-use nuvaskoe::{card, effective, figures, packet, resend, Refusal};
+use nuvaskoe::{card, effective, figures, packet, resend, trace::Event, Refusal};
 
 const CARD: &[u8] = b"00200003000010100094";
 const TRACE: [u8; 16] = [0, 1, 1, 0, 1, 0, 1, 0, 0, 2, 0, 0, 0, 0, 0, 0];
@@ -29,7 +29,7 @@ fn main() -> Result<(), Refusal> {
     let card = card::read(CARD)?;
     let lost = figures::loss_of_trace(&TRACE, card.gmin, card.spacing, SOURCE, 3)?;
     let discarded = figures::discard_of_trace(&TRACE, card.gmin, card.spacing, SOURCE, 3)?;
-    let loss = effective::effective_loss(&TRACE, card.batch, card.threshold)?;
+    let loss = effective::effective_loss(&TRACE, card.batch, card.threshold, Event::Lost)?;
     let blocks = [
         SPAN,
         Block::Loss(lost),
@@ -45,7 +45,8 @@ fn main() -> Result<(), Refusal> {
         size = packet::add(&mut buffer, &block)?;
     }
     let mut report: String = packet::blocks(&buffer[..size])?.map(line).collect();
-    let marks = resend::plan(&TRACE, card.batch, card.threshold, &mut [0; TRACE.len()])?;
+    let mut plan = [0; TRACE.len()];
+    let marks = resend::plan(&TRACE, card.batch, card.threshold, Event::Lost, &mut plan)?;
     report += &format!("resend {marks}\n");
     print!("{report}");
     assert_eq!(report, REPORT);

@@ -1,4 +1,5 @@
-//! Figures of whole traces, and their blocks, with both implementations.
+//! Figures of whole traces, and their blocks, with both implementations, by each choice of what
+//! counts.
 
 mod support;
 
@@ -7,10 +8,11 @@ use support::{
     adding::{add_lawfully, writable},
     answers::Answer,
     compare::block_both,
+    events::{by_each, EVENTS, REPORTED},
     from_env,
     measuring::{
         all_traces, any_figures, discard_block_both, figures_both, loss_block_both, random_gmin,
-        random_spacing, random_trace, EVENTS, LONGEST, OVER_RANGE, UNAVAILABLE,
+        random_spacing, random_trace, LONGEST, OVER_RANGE, UNAVAILABLE,
     },
     packets::{listed, packet},
     Random,
@@ -27,12 +29,14 @@ fn figures(burst_rate: u16, gap_rate: u16, mean: u16, variance: u16) -> Answer<F
     })
 }
 
-/// The same trace, with lost and discarded packets exchanged.
-fn exchanged(trace: &[u8]) -> Vec<u8> {
-    trace.iter().map(|packet| (3 - packet) % 3).collect()
+/// The figures by each choice, of a trace in which that counts the packets lost in this one.
+fn figures_by_each(trace: &[u8], gmin: u32, spacing: u32) -> Answer<Figures> {
+    by_each(trace, |trace, event| {
+        figures_both(trace, gmin, spacing, event)
+    })
 }
 
-/// P6 to P9 of document 01, P6 with document 02's variance, for either event.
+/// P6 to P9 of document 01, P6 with document 02's variance.
 #[test]
 fn sheet() {
     let cases: [(&[u8], u32, _); 4] = [
@@ -54,12 +58,7 @@ fn sheet() {
         ),
     ];
     for (trace, gmin, expected) in cases {
-        assert_eq!(figures_both(trace, gmin, 1_000, LOST), expected);
-        let trace = exchanged(trace);
-        assert_eq!(
-            figures_both(&trace, gmin, 1_000, Event::Discarded),
-            expected
-        );
+        assert_eq!(figures_by_each(trace, gmin, 1_000), expected);
     }
 }
 
@@ -69,10 +68,7 @@ fn all_short_traces() {
         for trace in all_traces(length) {
             for gmin in 1..=4 {
                 for spacing in [700, 40_000] {
-                    let lost = figures_both(&trace, gmin, spacing, LOST);
-                    assert!(lost.is_ok());
-                    let other = figures_both(&exchanged(&trace), gmin, spacing, Event::Discarded);
-                    assert_eq!(lost, other);
+                    assert!(figures_by_each(&trace, gmin, spacing).is_ok());
                 }
             }
         }
@@ -94,21 +90,28 @@ fn random_traces() {
 }
 
 /// Two events belong together when fewer than Gmin packets stand between them, whether
-/// those are received or of the other kind.
+/// those are received or of a kind that does not count, and the two of one kind or not.
 #[test]
 fn every_gmin() {
     for gmin in 1..=255_u32 {
         for between in [gmin - 1, gmin, gmin + 1] {
-            for (event, other) in [(1, 0), (1, 2), (2, 0), (2, 1)] {
+            for (first, last, other, event) in [
+                (1, 1, 0, LOST),
+                (1, 1, 2, LOST),
+                (2, 2, 0, Event::Discarded),
+                (2, 2, 1, Event::Discarded),
+                (1, 1, 0, Event::Either),
+                (1, 2, 0, Event::Either),
+                (2, 1, 0, Event::Either),
+            ] {
                 let mut trace = vec![other; between as usize + 2];
-                (trace[0], trace[between as usize + 1]) = (event, event);
+                (trace[0], trace[between as usize + 1]) = (first, last);
                 let rate = (2 * 32_768 / (between + 2)) as u16;
                 let expected = match between < gmin {
                     true => figures(rate, UNAVAILABLE, between as u16 + 2, 0),
                     false => figures(UNAVAILABLE, rate, UNAVAILABLE, UNAVAILABLE),
                 };
-                let kind = EVENTS[usize::from(event) - 1];
-                assert_eq!(figures_both(&trace, gmin, 1_000, kind), expected);
+                assert_eq!(figures_both(&trace, gmin, 1_000, event), expected);
             }
         }
     }
@@ -122,7 +125,7 @@ fn every_spacing() {
             _ => Err((15, 0)),
         };
         let trace = [1, 1, 1, 1, 1, 1, 1, 0];
-        assert_eq!(figures_both(&trace, 1, spacing, LOST), expected);
+        assert_eq!(figures_by_each(&trace, 1, spacing), expected);
     }
 }
 
@@ -182,17 +185,17 @@ fn every_byte() {
                 let mut trace = vec![1; length];
                 trace[place] = byte;
                 let expected = if byte > 2 { Some((9, place)) } else { None };
-                assert_eq!(figures_both(&trace, 2, 1_000, LOST).err(), expected);
+                assert_eq!(figures_by_each(&trace, 2, 1_000).err(), expected);
                 if let (Some(_), Some(last)) = (expected, trace[place + 1..].last_mut()) {
                     *last = 255;
-                    assert_eq!(figures_both(&trace, 2, 1_000, LOST).err(), expected);
+                    assert_eq!(figures_by_each(&trace, 2, 1_000).err(), expected);
                 }
             }
         }
     }
 }
 
-/// The longest traces of one kind.
+/// The longest traces, of which all packets count or none.
 #[test]
 fn longest_traces() {
     for gmin in [1, 255] {
@@ -202,10 +205,10 @@ fn longest_traces() {
             (1_000, OVER_RANGE),
             (40_000, OVER_RANGE),
         ] {
-            for (kind, event) in [(1, LOST), (2, Event::Discarded)] {
-                let all = figures_both(&vec![kind; LONGEST], gmin, spacing, event);
-                assert_eq!(all, figures(32_768, UNAVAILABLE, mean, 0));
-                let none = figures_both(&vec![3 - kind; LONGEST], gmin, spacing, event);
+            let all = figures_by_each(&vec![1; LONGEST], gmin, spacing);
+            assert_eq!(all, figures(32_768, UNAVAILABLE, mean, 0));
+            for kind in [0, 2] {
+                let none = figures_by_each(&vec![kind; LONGEST], gmin, spacing);
                 assert_eq!(none, figures(UNAVAILABLE, 0, UNAVAILABLE, UNAVAILABLE));
             }
         }
@@ -298,7 +301,7 @@ fn blocks_of_traces() {
     for length in 1..=7 {
         for trace in all_traces(length) {
             let flag = 1 + random.below(3) as u8;
-            for event in EVENTS {
+            for event in REPORTED {
                 let measured = figures_both(&trace, 2, 40_000, event).expect("a good trace");
                 check_blocks(&measured, random.draw() as u32, flag, true);
             }
@@ -308,7 +311,7 @@ fn blocks_of_traces() {
         let length = 1 + random.below(3_000);
         let trace = random_trace(&mut random, length);
         let (gmin, spacing) = (random_gmin(&mut random), random_spacing(&mut random));
-        for event in EVENTS {
+        for event in REPORTED {
             let measured = figures_both(&trace, gmin, spacing, event).expect("a good trace");
             for flag in 1..=3 {
                 check_blocks(&measured, random.draw() as u32, flag, true);

@@ -1,15 +1,16 @@
 //! Traces packed and unpacked, and the effective loss and plan of packed ones, beside the
-//! independent calls and beside the byte form: document 02, ticket 6.
+//! independent calls and beside the byte form: document 02, ticket 6, by the choices of ticket 7.
 
 mod support;
 
-use independent::effective::EffectiveLoss;
+use independent::{effective::EffectiveLoss, trace::Event};
 use support::{
     batches::{
         all_settings, all_traces, bursty_losses, digits, loss_both, plan_lawfully, random_settings,
         LONGEST,
     },
     drawn_packed::{any_length, good_packed, random_losses},
+    events::{library_event, make_late, recast, EVENTS},
     from_env,
     packed::{
         pack_both, packed_loss_both, packed_plan_into, unpack_both, word_pattern, Packed, WORD,
@@ -24,14 +25,19 @@ fn traces() -> usize {
     from_env("NUVASKOE_TRACES", TRACES)
 }
 
-/// The words of a trace, which both conversions give with just enough room and with more.
+/// The words of a trace without discarded packets, which both conversions give with just enough
+/// room and with more: packing by lost only and by either, and by each choice a trace of which that
+/// counts the packets lost in this one.
 fn both_ways(trace: &[u8]) -> Packed {
     let packed = Packed::of(trace);
     let needed = packed.words.len();
     for more in [0, 1, 5] {
-        let (answer, words) = pack_both(trace, &word_pattern(needed + more));
-        assert_eq!(answer, Ok(needed));
-        assert!(words[..needed] == packed.words);
+        let alike = EVENTS.map(|event| (recast(trace, event), event));
+        for (trace, event) in alike.into_iter().chain([(trace.to_vec(), Event::Either)]) {
+            let (answer, words) = pack_both(&trace, event, &word_pattern(needed + more));
+            assert_eq!(answer, Ok(needed));
+            assert!(words[..needed] == packed.words);
+        }
         let (answer, bytes) = unpack_both(&packed, &pattern(trace.len() + more));
         assert_eq!(answer, Ok(trace.len()));
         assert!(bytes[..trace.len()] == *trace);
@@ -49,11 +55,13 @@ fn figures(packed: &Packed, settings: (u32, u32)) -> (EffectiveLoss, Vec<u8>) {
     (loss, plan)
 }
 
-/// The same, beside the byte form as both implementations have it.
+/// The same, beside the byte form as both implementations have it, by each choice of what counts.
 fn same(trace: &[u8], (batch, threshold): (u32, u32)) {
-    let (loss, plan) = figures(&Packed::of(trace), (batch, threshold));
-    assert_eq!(loss_both(trace, batch, threshold), Ok(loss));
-    assert!(plan_lawfully(trace, batch, threshold).1 == plan);
+    for event in EVENTS {
+        let (loss, plan) = figures(&Packed::by(event, trace), (batch, threshold));
+        assert_eq!(loss_both(trace, batch, threshold, event), Ok(loss));
+        assert!(plan_lawfully(trace, (batch, threshold), event).1 == plan);
+    }
 }
 
 #[test]
@@ -188,8 +196,10 @@ fn random_traces() {
         let length = any_length(&mut random);
         let trace = random_losses(&mut random, length);
         both_ways(&trace);
-        let (batch, threshold) = random_settings(&mut random, &trace);
-        same(&trace, (batch, threshold));
+        let (batch, threshold) = random_settings(&mut random, &trace, Event::Lost);
+        let mut late = trace.clone();
+        make_late(&mut random, &mut late);
+        same(&late, (batch, threshold));
         let all = length.min(1_024) as u32;
         for settings in [(1, 0), (1, 1), (all, 0), (batch, batch), (batch, 1_024)] {
             figures(&Packed::of(&trace), settings);
@@ -214,7 +224,10 @@ fn random_words() {
         let packed = Packed { words, packets };
         let (answer, trace) = unpack_both(&packed, &pattern(packets));
         assert_eq!(answer, Ok(packets));
-        assert_eq!(pack_both(&trace, &packed.words).1, packed.words);
+        assert_eq!(
+            pack_both(&trace, Event::Lost, &packed.words).1,
+            packed.words
+        );
         assert!(both_ways(&trace).words == packed.words);
     }
 }
@@ -226,7 +239,7 @@ fn plans_of_packed_traces() {
     for _ in 0..traces() / 5 {
         let packed = good_packed(&mut random);
         let trace = packed.trace();
-        let settings = random_settings(&mut random, &trace);
+        let settings = random_settings(&mut random, &trace, Event::Lost);
         let (_, plan) = figures(&packed, settings);
         let resent = |kept: Option<usize>| {
             let left = trace.iter().zip(&plan).enumerate();
@@ -267,10 +280,13 @@ fn longest_trace() {
     assert_eq!((loss.over, loss.index, loss.first), (1, 1, Some(64_512)));
     let mut random = Random::new("packed longest_trace");
     let bursty = bursty_losses(&mut random, LONGEST);
+    for settings in [(1, 0), (2, 1), (100, 5), (100, 12), (1_024, 60)] {
+        same(&bursty, settings);
+    }
     let bursty = bursty.into_iter().map(|packet| packet % 2);
     for trace in [bursty.collect(), random_losses(&mut random, LONGEST)] {
-        for settings in [(1, 0), (2, 1), (100, 5), (100, 12), (1_024, 60)] {
-            same(&trace, settings);
+        for settings in [(1, 0), (100, 5), (1_024, 60)] {
+            figures(&Packed::of(&trace), settings);
         }
         for length in [LONGEST - 1, LONGEST - 63, LONGEST - 64] {
             both_ways(&trace[..length]);
@@ -289,7 +305,9 @@ fn parts_of_buffers() {
             around[start..start + length].copy_from_slice(&trace);
             let packed = both_ways(&around[start..start + length]);
             let mut words = word_pattern(start + 5);
-            let answer = nuvaskoe::packed::pack(&trace, &mut words[start..]);
+            let event = random.one_of(&EVENTS);
+            let (recast, choice) = (recast(&trace, event), library_event(event));
+            let answer = nuvaskoe::packed::pack(&recast, choice, &mut words[start..]);
             let needed = packed.words.len();
             assert_eq!(answer, Ok(needed));
             assert_eq!(words[..start], word_pattern(start + 5)[..start]);

@@ -3,14 +3,17 @@
 
 mod support;
 
+use independent::trace::Event;
 use std::collections::BTreeSet;
 use support::{
     answers::Answer,
     batches::{LONGEST, SETTINGS},
     drawn_packed::{any_packed, any_settings, any_trace, followed_by_any, good_packed, room},
+    events::{any_event, event_numbered, EVENTS},
     from_env,
     packed::{
-        pack_both, packed_loss_both, packed_plan_into, unpack_both, word_pattern, Packed, WORD,
+        pack_both, pack_numbered, packed_loss_both, packed_plan_into, unpack_both, word_pattern,
+        Packed, WORD,
     },
     pattern, Random,
 };
@@ -22,9 +25,9 @@ fn traces() -> usize {
     from_env("NUVASKOE_TRACES", TRACES)
 }
 
-/// What packing comes to.
+/// What packing comes to, by any event.
 fn expected_pack(trace: &[u8], room: usize) -> Answer<usize> {
-    let bad = trace.iter().position(|packet| *packet > 1);
+    let bad = trace.iter().position(|packet| *packet > 2);
     let needed = trace.len().div_ceil(WORD);
     match (trace.len(), bad) {
         (0 | 65_537.., _) => Err((10, 0)),
@@ -88,8 +91,10 @@ fn numbers_of_packets() {
     for packets in [0, 65_537, 65_600, 131_072] {
         for byte in [0, 1, 2, 255] {
             for room in [0, 1, 1_024, 1_025, 2_048] {
-                let answer = pack_both(&vec![byte; packets], &word_pattern(room));
-                assert_eq!(answer, (Err((10, 0)), word_pattern(room)));
+                for event in EVENTS {
+                    let answer = pack_both(&vec![byte; packets], event, &word_pattern(room));
+                    assert_eq!(answer, (Err((10, 0)), word_pattern(room)));
+                }
             }
         }
     }
@@ -153,27 +158,31 @@ fn words_behind() {
     }
 }
 
-/// Every byte at every place of a trace: 0 and 1 are packets, and 2 is refused like any other.
+/// Every byte at every place of a trace: 0, 1 and 2 are packets, and any other is refused.
 #[test]
 fn every_byte_of_a_trace() {
     for place in 0..70 {
         for byte in 0..=u8::MAX {
-            let mut trace = [0, 1].repeat(35);
-            trace[place] = byte;
-            for room in [0, 1, 2, 3] {
-                let answer = pack_both(&trace, &word_pattern(room)).0;
-                assert_eq!(answer, expected_pack(&trace, room), "{byte} at {place}");
+            for event in EVENTS {
+                let mut trace = [0, 1, 2, 1, 0].repeat(14);
+                trace[place] = byte;
+                for room in [0, 1, 2, 3] {
+                    let answer = pack_both(&trace, event, &word_pattern(room)).0;
+                    assert_eq!(answer, expected_pack(&trace, room), "{byte} at {place}");
+                }
+                // The first of two is told.
+                trace[69] = 3;
+                let answer = pack_both(&trace, event, &word_pattern(2)).0;
+                assert_eq!(answer, expected_pack(&trace, 2), "{byte} at {place}");
             }
-            // The first of two is told.
-            trace[69] = 2;
-            let answer = pack_both(&trace, &word_pattern(2)).0;
-            assert_eq!(answer, expected_pack(&trace, 2), "{byte} at {place}");
         }
     }
     for place in [255, 256, 4_095, 32_768, LONGEST - 1] {
         let mut trace = vec![1; LONGEST];
         trace[place] = 2;
-        assert_eq!(pack_both(&trace, &[]).0, Err((9, place)));
+        assert_eq!(pack_both(&trace, Event::Lost, &[]).0, Err((8, 0)));
+        trace[place] = 3;
+        assert_eq!(pack_both(&trace, Event::Lost, &[]).0, Err((9, place)));
     }
 }
 
@@ -182,11 +191,13 @@ fn every_byte_of_a_trace() {
 fn every_room() {
     let mut random = Random::new("packed_limits every_room");
     for length in [1, 2, 63, 64, 65, 127, 128, 129, 190] {
-        let trace: Vec<u8> = (0..length).map(|_| random.below(2) as u8).collect();
+        let trace: Vec<u8> = (0..length).map(|_| random.below(3) as u8).collect();
         let packed = Packed::of(&trace);
         for room in 0..6 {
-            let answer = pack_both(&trace, &word_pattern(room)).0;
-            assert_eq!(answer, expected_pack(&trace, room));
+            for event in EVENTS {
+                let answer = pack_both(&trace, event, &word_pattern(room)).0;
+                assert_eq!(answer, expected_pack(&trace, room));
+            }
         }
         for room in 0..length + 70 {
             let answer = unpack_both(&packed, &pattern(room)).0;
@@ -223,7 +234,7 @@ fn buffers_that_held_anything() {
         }
         let needed = packets.div_ceil(WORD);
         for word in [0, u64::MAX] {
-            let (_, words) = pack_both(&trace, &vec![word; needed]);
+            let (_, words) = pack_both(&trace, Event::Lost, &vec![word; needed]);
             assert!(words == packed.words[..needed]);
         }
     }
@@ -307,23 +318,28 @@ fn faults_in_all_combinations() {
     }
 }
 
-/// The same of packing: 10, 9, 8.
+/// The same of packing: 15, 10, 9, 8.
 #[test]
 fn faults_of_packing() {
-    for set in 0..8 {
-        let [long, bad, short] = [0, 1, 2].map(|place| set >> place & 1 == 1);
+    for set in 0..16 {
+        let [none, long, bad, short] = [0, 1, 2, 3].map(|place| set >> place & 1 == 1);
         let mut trace = vec![1; if long { LONGEST + 1 } else { 70 }];
         if bad {
-            trace[40] = 2;
+            trace[40] = 3;
         }
         let room = if short { 1 } else { 2 };
-        let expected = match (long, bad, short) {
-            (true, _, _) => Err((10, 0)),
-            (_, true, _) => Err((9, 40)),
-            (_, _, true) => Err((8, 0)),
+        let expected = match (none, long, bad, short) {
+            (true, ..) => Err((15, 0)),
+            (_, true, ..) => Err((10, 0)),
+            (_, _, true, _) => Err((9, 40)),
+            (.., true) => Err((8, 0)),
             _ => Ok(2),
         };
-        assert_eq!(pack_both(&trace, &word_pattern(room)).0, expected);
+        for event in if none { [0, 4, 5] } else { [1, 2, 3] } {
+            let (answer, out) = pack_numbered(&trace, event, &word_pattern(room));
+            assert_eq!(answer, expected, "faults {set:b}, event {event}");
+            assert!(answer.is_ok() || out == word_pattern(room));
+        }
     }
 }
 
@@ -334,10 +350,13 @@ fn any_input() {
     let mut seen = [(); 4].map(|()| BTreeSet::new());
     let number = |refusal: Option<(u32, usize)>| refusal.map_or(0, |(number, _)| number);
     for _ in 0..traces() {
-        let trace = any_trace(&mut random);
+        let (trace, event) = (any_trace(&mut random), any_event(&mut random));
         let words = room(&mut random, trace.len().div_ceil(WORD));
-        let answer = pack_both(&trace, &word_pattern(words)).0;
-        assert_eq!(answer, expected_pack(&trace, words));
+        let answer = pack_numbered(&trace, event, &word_pattern(words)).0;
+        match event_numbered(event) {
+            Some(_) => assert_eq!(answer, expected_pack(&trace, words)),
+            None => assert_eq!(answer, Err((15, 0))),
+        }
         seen[0].insert(number(answer.err()));
         let packed = any_packed(&mut random);
         let bytes = room(&mut random, packed.packets.min(LONGEST));
@@ -353,7 +372,7 @@ fn any_input() {
         seen[3].insert(number(answer.err()));
     }
     let all = [
-        BTreeSet::from([0, 8, 9, 10]),
+        BTreeSet::from([0, 8, 9, 10, 15]),
         BTreeSet::from([0, 8, 9, 10]),
         BTreeSet::from([0, 8, 9, 10, 14, 15]),
         BTreeSet::from([0, 8, 9, 10, 14, 15]),

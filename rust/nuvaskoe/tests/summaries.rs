@@ -1,5 +1,5 @@
 //! The blocks of whole traces and of tallies, with both implementations: a 17 is of the lost
-//! packets and an 18 of the discarded.
+//! packets and an 18 of the discarded, and no block is of either.
 
 mod support;
 
@@ -15,30 +15,32 @@ use support::{
     boundary,
     compare::block_both,
     drawn_tallies::{random_hostile, random_reached},
+    events::{independent_event, library_event, many_no_events, REPORTED},
     from_env,
     measuring::{
-        all_traces, any_report, any_trace, discard_block_both, figures_both, independent_event,
-        library_event, loss_block_both, random_gmin, random_spacing, random_trace,
-        trace_block_both, EVENTS, LONGEST, NO_EVENTS, OVER_RANGE, UNAVAILABLE,
+        all_traces, any_report, any_trace, discard_block_both, figures_both, loss_block_both,
+        random_gmin, random_spacing, random_trace, trace_block_both, LONGEST, OVER_RANGE,
+        UNAVAILABLE,
     },
     packets::{listed, packet},
     tallies::{at_boundary, close_both, tally_block_both, tally_block_numbered},
     Random,
 };
 
-/// The block that reports figures of these events.
-fn block_of(event: Event, figures: &Figures, (source, flag): (u32, u8)) -> Block {
+/// The block that reports figures of these events; there is none of either.
+fn block_of(event: Event, figures: &Figures, (source, flag): (u32, u8)) -> Answer<Block> {
     match event {
-        Event::Lost => loss_block_both(figures, source, flag),
-        Event::Discarded => discard_block_both(figures, source, flag),
+        Event::Lost => Ok(loss_block_both(figures, source, flag)),
+        Event::Discarded => Ok(discard_block_both(figures, source, flag)),
+        Event::Either => Err((15, 0)),
     }
 }
 
 /// Each block of the trace is the one of the figures of its event, or refused as they are.
 fn check_trace(trace: &[u8], settings: (u32, u32), report: (u32, u8)) {
-    for event in EVENTS {
+    for event in REPORTED {
         let measured = figures_both(trace, settings.0, settings.1, event);
-        let expected = measured.map(|figures| block_of(event, &figures, report));
+        let expected = measured.and_then(|figures| block_of(event, &figures, report));
         assert_eq!(trace_block_both(trace, settings, event, report), expected);
     }
 }
@@ -136,7 +138,7 @@ fn both_kinds_of_packets() {
         (&[1, 2, 1, 2, 0, 0], 2, [21_845, 0, 3, 0], [21_845, 0]),
     ];
     for (trace, gmin, of_lost, of_discarded) in cases {
-        let both = EVENTS.map(|event| trace_block_both(trace, (gmin, 1_000), event, (7, 3)));
+        let both = REPORTED.map(|event| trace_block_both(trace, (gmin, 1_000), event, (7, 3)));
         assert_eq!(both, [loss(of_lost), discard(of_discarded)]);
     }
 }
@@ -145,7 +147,7 @@ fn both_kinds_of_packets() {
 #[test]
 fn figures_of_the_other_event() {
     let (trace, report) = ([1, 1, 0, 0, 2], (7, 3));
-    let [lost, discarded] = EVENTS.map(|event| {
+    let [lost, discarded] = REPORTED.map(|event| {
         let measured = figures_both(&trace, 1, 1_000, event);
         measured.expect("a good trace")
     });
@@ -154,8 +156,8 @@ fn figures_of_the_other_event() {
         (Event::Discarded, discarded, lost),
     ] {
         let measured = trace_block_both(&trace, (1, 1_000), event, report);
-        assert_eq!(measured, Ok(block_of(event, &own, report)));
-        assert_ne!(measured, Ok(block_of(event, &other, report)));
+        assert_eq!(measured, block_of(event, &own, report));
+        assert_ne!(measured, block_of(event, &other, report));
     }
 }
 
@@ -170,7 +172,7 @@ fn marks_of_figures() {
         assert_eq!(answer, loss(figures));
     }
     let unavailable = [loss([UNAVAILABLE; 4]), discard([UNAVAILABLE; 2])];
-    for (event, expected) in EVENTS.into_iter().zip(unavailable) {
+    for (event, expected) in REPORTED.into_iter().zip(unavailable) {
         let opened = Tally::open(16, 1_000, library_event(event)).expect("good settings");
         assert_eq!(tally_block_both(opened, 7, 3), expected);
     }
@@ -184,7 +186,7 @@ fn tallies_of_traces() {
         let length = 1 + random.below(300);
         let trace = random_trace(&mut random, length);
         let (gmin, spacing) = (random_gmin(&mut random), random_spacing(&mut random));
-        for event in EVENTS {
+        for event in REPORTED {
             let mut tally =
                 Tally::open(gmin, spacing, library_event(event)).expect("good settings");
             for length in 1..=trace.len() {
@@ -201,7 +203,8 @@ fn tallies_of_traces() {
     }
 }
 
-/// Also of tallies that no trace gives: the block of what closing gives, or 15 as closing.
+/// Also of tallies that no trace gives: the block of what closing gives, or 15 as closing. One that
+/// counts either closes, and has no block.
 #[test]
 fn any_tallies() {
     let mut random = Random::new("any_tallies");
@@ -211,7 +214,7 @@ fn any_tallies() {
         let (source, flag) = any_report(&mut random);
         let event = independent_event(given.event);
         let closed = close_both(given);
-        let expected = closed.map(|figures| block_of(event, &figures, (source, flag)));
+        let expected = closed.and_then(|figures| block_of(event, &figures, (source, flag)));
         assert_eq!(tally_block_both(given, source, flag), expected);
         match closed {
             Ok(_) => sound += 1,
@@ -229,9 +232,7 @@ fn any_tallies() {
 #[test]
 fn no_event() {
     let mut random = Random::new("no_event");
-    let mut numbers = NO_EVENTS.to_vec();
-    numbers.extend((2..32).map(|bit| 1 << bit));
-    for event in numbers {
+    for event in many_no_events(&mut random) {
         for tally in [random_reached(&mut random), random_hostile(&mut random)] {
             let given = boundary::Tally {
                 event,
@@ -262,7 +263,7 @@ fn measured_blocks_are_added() {
     let mut random = Random::new("measured_blocks_are_added");
     for trace in all_traces(6) {
         let source = random.draw() as u32;
-        for event in EVENTS {
+        for event in REPORTED {
             let mut tally = Tally::open(2, 40_000, library_event(event)).expect("good settings");
             for byte in &trace {
                 tally = tally.take(*byte).0;

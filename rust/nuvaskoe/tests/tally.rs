@@ -1,5 +1,5 @@
 //! Tallies fed packet by packet, with both implementations: at every point they close with
-//! the figures of the packets so far. No event but two is taken.
+//! the figures of the packets so far, by each choice of what counts. No other number is an event.
 
 mod support;
 
@@ -9,10 +9,11 @@ use support::{
     answers::Answer,
     boundary,
     drawn_tallies::{random_hostile, random_reached},
+    events::{library_event, many_no_events, EVENTS},
     from_env,
     measuring::{
-        figures_both, figures_numbered, library_event, random_gmin, random_spacing, random_trace,
-        EVENTS, LONGEST, NO_EVENTS, UNAVAILABLE,
+        figures_both, figures_numbered, random_gmin, random_spacing, random_trace, LONGEST,
+        UNAVAILABLE,
     },
     tallies::{
         at_boundary, close_both, close_numbered, independent_tally, open_both, open_numbered,
@@ -169,17 +170,21 @@ fn long_traces() {
     }
 }
 
-/// The longest traces of one kind, and with events just near enough or just too far apart.
+/// The longest traces of events alone, and with events just near enough or just too far apart.
 #[test]
 fn longest_regular_traces() {
-    for (kind, event) in [(1, Event::Lost), (2, Event::Discarded)] {
+    for (kinds, event) in [
+        ([1, 1], Event::Lost),
+        ([2, 2], Event::Discarded),
+        ([1, 2], Event::Either),
+    ] {
         for (gmin, spacing) in [(1, 1), (255, 40_000)] {
             for apart in [1, 2, 3, 255, 256, 257, LONGEST] {
                 let mut trace = vec![0; LONGEST];
-                trace
-                    .iter_mut()
-                    .step_by(apart)
-                    .for_each(|packet| *packet = kind);
+                let events = trace.iter_mut().step_by(apart);
+                for (packet, kind) in events.zip(kinds.into_iter().cycle()) {
+                    *packet = kind;
+                }
                 check_full(check_fed(&trace, gmin, spacing, event, 16_411));
             }
         }
@@ -207,10 +212,7 @@ fn bad_bytes() {
 #[test]
 fn every_number_that_is_no_event() {
     let mut random = Random::new("every_number_that_is_no_event");
-    let mut numbers = NO_EVENTS.to_vec();
-    numbers.extend((0..300).map(|_| random.draw() as u32 | 4));
-    numbers.extend((2..32).map(|bit| 1 << bit));
-    for event in numbers {
+    for event in many_no_events(&mut random) {
         for (gmin, spacing) in [(16, 1_000), (0, 1_000), (255, 40_000), (1, 40_001)] {
             assert_eq!(open_numbered(gmin, spacing, event), Err((15, 0)));
             for trace in [&[][..], &[0, 1, 2], &[1, 1, 3]] {

@@ -42,14 +42,22 @@ pub fn answer(case: &Case) -> Option<String> {
             )
         }),
         "write" => lending(n[4], |lent| card::write(settings(n), lent)),
-        "loss" => shown::or_refused(effective::effective_loss(data, n[0], n[1]), shown::loss),
-        "plan" => planning(n[2], |lent| resend::plan(data, n[0], n[1], lent)),
-        "pack" => packing(n[0], data),
+        "loss" | "plan" | "pack" => of_trace(case.word, n, data)?,
         "unpack" | "packedloss" | "packedplan" => of_words(case.word, n, data),
         "figures" | "tally" | "close" | "tallyblock" | "take" => measured(case.word, n, data)?,
         "loss17" | "discard18" => reported(case.word, n, data)?,
         _ => adding(case.word, n, data)?,
     })
+}
+
+/// What counts.
+fn event(number: u32) -> Option<Event> {
+    match number {
+        1 => Some(Event::Lost),
+        2 => Some(Event::Discarded),
+        3 => Some(Event::Either),
+        _ => None,
+    }
 }
 
 /// A block read by itself.
@@ -115,10 +123,21 @@ fn planning(room: u32, call: impl FnOnce(&mut [u8]) -> Result<usize, Refusal>) -
     answer + &shown::plan(&lent)
 }
 
-fn packing(room: u32, trace: &[u8]) -> String {
-    let mut lent = vec![u64::from(HELD); room as usize];
-    let answer = packed::pack(trace, &mut lent);
-    shown::or_refused(answer, |words| format!("words {words}")) + &shown::words(&lent)
+/// The three calls on traces of which the first number is the event.
+fn of_trace(word: &str, n: &[u32], trace: &[u8]) -> Option<String> {
+    let event = event(n[0])?;
+    Some(match word {
+        "loss" => {
+            let loss = effective::effective_loss(trace, n[1], n[2], event);
+            shown::or_refused(loss, shown::loss)
+        }
+        "plan" => planning(n[3], |lent| resend::plan(trace, n[1], n[2], event, lent)),
+        _ => {
+            let mut lent = vec![u64::from(HELD); n[1] as usize];
+            let answer = packed::pack(trace, event, &mut lent);
+            shown::or_refused(answer, |words| format!("words {words}")) + &shown::words(&lent)
+        }
+    })
 }
 
 /// The three calls on words, of which the first number is how many packets they hold.
@@ -144,11 +163,7 @@ fn of_words(word: &str, n: &[u32], data: &[u8]) -> String {
 /// Figures of a trace, by one call or by a tally, and tallies made of their numbers. The first
 /// number is the event.
 fn measured(word: &str, n: &[u32], trace: &[u8]) -> Option<String> {
-    let event = match n[0] {
-        1 => Event::Lost,
-        2 => Event::Discarded,
-        _ => return None,
-    };
+    let event = event(n[0])?;
     let answer = match word {
         "figures" => figures::of_trace(trace, n[1], n[2], event),
         "tally" => tallied(n[1], n[2], event, trace),

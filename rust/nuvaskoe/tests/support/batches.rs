@@ -4,11 +4,13 @@
 use super::{
     answers::{ours, refusal as refused, theirs, Answer},
     boundary::{Loss, Marks},
+    events::{event_numbered, library_event, make_late, number_of},
     pattern, raw, Random,
 };
 use independent::{
     effective::{self, EffectiveLoss},
     resend,
+    trace::Event,
 };
 
 /// The most packets of a trace.
@@ -32,24 +34,45 @@ pub const SETTINGS: [u32; 14] = [
     u32::MAX,
 ];
 
-/// The effective loss on which both agree, the independent one in its two forms.
-pub fn loss_both(trace: &[u8], batch: u32, threshold: u32) -> Answer<EffectiveLoss> {
-    let library = nuvaskoe::effective::effective_loss(trace, batch, threshold);
-    let library = ours(library).map(independent_loss);
+/// The effective loss on which all agree. An event that is none is refused.
+pub fn loss_numbered(
+    trace: &[u8],
+    batch: u32,
+    threshold: u32,
+    event: u32,
+) -> Answer<EffectiveLoss> {
+    let expected = match event_numbered(event) {
+        None => Err((15, 0)),
+        Some(event) => safe_loss(trace, batch, threshold, event),
+    };
+    let whole = raw::effective_loss(trace, batch, threshold, event);
     assert!(
-        raw::effective_loss(trace, batch, threshold) == whole_loss(&library),
-        "{library:?}: {}",
+        whole == whole_loss(&expected),
+        "{whole:?} and {expected:?}: event {event}, {}",
         shown(trace, batch, threshold)
     );
+    expected
+}
+
+/// The same of an event.
+pub fn loss_both(trace: &[u8], batch: u32, threshold: u32, event: Event) -> Answer<EffectiveLoss> {
+    loss_numbered(trace, batch, threshold, number_of(event))
+}
+
+/// That of the library's safe call and of both independent forms.
+fn safe_loss(trace: &[u8], batch: u32, threshold: u32, event: Event) -> Answer<EffectiveLoss> {
+    let choice = library_event(event);
+    let library = nuvaskoe::effective::effective_loss(trace, batch, threshold, choice);
+    let library = ours(library).map(independent_loss);
     let (b, t) = (u64::from(batch), u64::from(threshold));
     for independent in [
-        effective::effective_loss(trace, b, t),
-        effective::running_effective_loss(trace, b, t),
+        effective::effective_loss(trace, b, t, event),
+        effective::running_effective_loss(trace, b, t, event),
     ] {
         let independent = theirs(independent);
         assert!(
             library == independent,
-            "{library:?} and {independent:?}: {}",
+            "{library:?} and {independent:?}: {event:?}, {}",
             shown(trace, batch, threshold)
         );
     }
@@ -80,27 +103,53 @@ pub fn whole_loss(answer: &Answer<EffectiveLoss>) -> Loss {
     }
 }
 
-/// Plans with both into equal buffers that hold `before`, and gives the answer and the buffer
-/// on which they agree. Bytes after the plan, and all where refused, keep what they held.
+/// Plans with all into equal buffers that hold `before`, and gives the answer and the buffer on
+/// which they agree. Bytes after the plan, and all where refused, keep what they held. An event
+/// that is none is refused.
+pub fn plan_numbered(
+    trace: &[u8],
+    (batch, threshold): (u32, u32),
+    event: u32,
+    before: &[u8],
+) -> (Answer<usize>, Vec<u8>) {
+    let (expected, out) = match event_numbered(event) {
+        None => (Err((15, 0)), before.to_vec()),
+        Some(event) => safe_plan(trace, (batch, threshold), event, before),
+    };
+    let mut whole_out = before.to_vec();
+    let whole = raw::resend_plan(trace, batch, threshold, event, &mut whole_out);
+    let shown = || format!("event {event}, {}", shown(trace, batch, threshold));
+    assert!(whole == whole_marks(&expected), "{whole:?}: {}", shown());
+    assert!(whole_out == out, "{}", shown());
+    (expected, out)
+}
+
+/// The same of an event.
 pub fn plan_into(
     trace: &[u8],
-    batch: u32,
-    threshold: u32,
+    settings: (u32, u32),
+    event: Event,
+    before: &[u8],
+) -> (Answer<usize>, Vec<u8>) {
+    plan_numbered(trace, settings, number_of(event), before)
+}
+
+/// The same with the library's safe call and the independent one.
+fn safe_plan(
+    trace: &[u8],
+    (batch, threshold): (u32, u32),
+    event: Event,
     before: &[u8],
 ) -> (Answer<usize>, Vec<u8>) {
     let (mut library_out, mut independent_out) = (before.to_vec(), before.to_vec());
-    let mut whole_out = before.to_vec();
-    let whole = raw::resend_plan(trace, batch, threshold, &mut whole_out);
-    let library = nuvaskoe::resend::plan(trace, batch, threshold, &mut library_out);
+    let choice = library_event(event);
+    let library = nuvaskoe::resend::plan(trace, batch, threshold, choice, &mut library_out);
     let library = ours(library);
     let (b, t) = (u64::from(batch), u64::from(threshold));
-    let independent = theirs(resend::plan(trace, b, t, &mut independent_out));
-    let shown = || shown(trace, batch, threshold);
+    let independent = theirs(resend::plan(trace, b, t, event, &mut independent_out));
+    let shown = || format!("{event:?}, {}", shown(trace, batch, threshold));
     assert!(library == independent, "{library:?}: {}", shown());
     assert!(library_out == independent_out, "{}", shown());
-    let marks = whole_marks(&independent);
-    assert!(whole == marks, "{whole:?}: {}", shown());
-    assert!(whole_out == independent_out, "{}", shown());
     let written = library.map_or(0, |_| trace.len());
     assert!(library_out[written..] == before[written..], "{}", shown());
     (library, library_out)
@@ -114,41 +163,50 @@ pub fn whole_marks(answer: &Answer<usize>) -> Marks {
     }
 }
 
-/// The same into a buffer of `length` bytes that hold a pattern.
+/// Plans into a buffer of `length` bytes that hold a pattern.
 pub fn plan_both(
     trace: &[u8],
-    batch: u32,
-    threshold: u32,
+    settings: (u32, u32),
+    event: Event,
     length: usize,
 ) -> (Answer<usize>, Vec<u8>) {
-    plan_into(trace, batch, threshold, &pattern(length))
+    plan_into(trace, settings, event, &pattern(length))
 }
 
 /// The plan of an accepted trace and the number of its marks, which leave no batch over.
-pub fn plan_lawfully(trace: &[u8], batch: u32, threshold: u32) -> (usize, Vec<u8>) {
-    let (answer, mut plan) = plan_both(trace, batch, threshold, trace.len() + 3);
+pub fn plan_lawfully(trace: &[u8], settings: (u32, u32), event: Event) -> (usize, Vec<u8>) {
+    let (answer, mut plan) = plan_both(trace, settings, event, trace.len() + 3);
     plan.truncate(trace.len());
     let marks = answer.expect("an accepted trace");
-    check_laws(trace, batch, threshold, marks, &plan);
+    check_laws(trace, settings, event, marks, &plan);
     (marks, plan)
 }
 
-/// The plan marks lost packets only, as many as the answer says, and the trace with them
+/// The plan marks counted packets only, as many as the answer says, and the trace with them
 /// received has no batch over the threshold.
-fn check_laws(trace: &[u8], batch: u32, threshold: u32, marks: usize, plan: &[u8]) {
-    let shown = || shown(trace, batch, threshold);
-    let lost_only = |(packet, byte): (&u8, &u8)| *byte == 0 || (*byte == 1 && *packet == 1);
-    assert!(trace.iter().zip(plan).all(lost_only), "{}", shown());
+fn check_laws(
+    trace: &[u8],
+    (batch, threshold): (u32, u32),
+    event: Event,
+    marks: usize,
+    plan: &[u8],
+) {
+    let shown = || format!("{event:?}, {}", shown(trace, batch, threshold));
+    let counted_only =
+        |(packet, byte): (&u8, &u8)| *byte == 0 || (*byte == 1 && event.counts(*packet));
+    assert!(trace.iter().zip(plan).all(counted_only), "{}", shown());
     let count = plan.iter().filter(|byte| **byte == 1).count();
     assert_eq!(count, marks, "{}", shown());
     let resent = trace.iter().zip(plan);
-    let resent: Vec<u8> = resent.map(|(packet, byte)| packet - byte).collect();
-    let left = nuvaskoe::effective::effective_loss(&resent, batch, threshold);
+    let resent: Vec<u8> = resent.map(|(packet, byte)| packet * (1 - byte)).collect();
+    let choice = library_event(event);
+    let left = nuvaskoe::effective::effective_loss(&resent, batch, threshold, choice);
     let left = left.expect("an accepted trace");
     assert_eq!((left.over, left.first), (0, None), "{}", shown());
 }
 
-/// The first refusal in order; `room` is None for effective loss, which fills no buffer.
+/// The first refusal in order by any event; `room` is None for effective loss, which fills no
+/// buffer.
 pub fn refusal(
     trace: &[u8],
     batch: u32,
@@ -210,31 +268,36 @@ pub fn bursty_losses(random: &mut Random, length: usize) -> Vec<u8> {
     trace
 }
 
-/// A trace of one of several makes.
+/// A trace of one of several makes, with more or fewer of its losses late.
 pub fn random_trace(random: &mut Random, length: usize) -> Vec<u8> {
-    match random.below(6) {
+    let mut trace = match random.below(6) {
         0 => random_losses(random, length, 5, 5),
         1 => random_losses(random, length, 33, 33),
         2 => random_losses(random, length, 95, 2),
         3 => random_losses(random, length, 0, 50),
         _ => bursty_losses(random, length),
-    }
+    };
+    make_late(random, &mut trace);
+    trace
 }
 
-/// A batch no longer than the trace, and a threshold near the losses that a batch holds.
-pub fn random_settings(random: &mut Random, trace: &[u8]) -> (u32, u32) {
+/// A batch no longer than the trace, and a threshold near the counted packets that a batch holds.
+pub fn random_settings(random: &mut Random, trace: &[u8], event: Event) -> (u32, u32) {
     let most = trace.len().min(1_024);
     let batch = match random.below(4) {
         0 => 1 + random.below(most.min(12)),
         1 => most,
         _ => 1 + random.below(most),
     };
-    let losses = trace[..batch].iter().filter(|packet| **packet == 1).count();
+    let counted = trace[..batch]
+        .iter()
+        .filter(|packet| event.counts(**packet));
+    let counted = counted.count();
     let threshold = match random.below(5) {
         0 => random.below(4),
         1 => random.below(1_025),
-        2 => random.below(losses + 1),
-        _ => (losses + random.below(9)).saturating_sub(4).min(1_024),
+        2 => random.below(counted + 1),
+        _ => (counted + random.below(9)).saturating_sub(4).min(1_024),
     };
     (batch as u32, threshold as u32)
 }
@@ -267,10 +330,10 @@ pub fn spoil(random: &mut Random, trace: &mut [u8]) {
 }
 
 /// Settings as for an accepted trace, at times a batch longer than it or one out of range.
-pub fn any_settings(random: &mut Random, trace: &[u8]) -> (u32, u32) {
+pub fn any_settings(random: &mut Random, trace: &[u8], event: Event) -> (u32, u32) {
     let (mut batch, mut threshold) = match trace {
         [] => (1, 0),
-        _ => random_settings(random, trace),
+        _ => random_settings(random, trace, event),
     };
     match random.below(12) {
         0 => batch = random.one_of(&SETTINGS),

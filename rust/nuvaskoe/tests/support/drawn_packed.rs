@@ -3,9 +3,11 @@
 use super::{
     batches::{random_settings, LONGEST, SETTINGS},
     drawn_runs::lossy,
+    events::make_late,
     packed::{Packed, WORD},
     Random,
 };
+use independent::trace::Event;
 
 /// How many packets: few, around whole words, some, or many.
 pub fn any_length(random: &mut Random) -> usize {
@@ -39,7 +41,8 @@ pub fn random_losses(random: &mut Random, length: usize) -> Vec<u8> {
     trace
 }
 
-/// A trace to pack, at times empty, too long, or with bytes that are neither received nor lost.
+/// A trace to pack, of received, lost and discarded packets, at times empty, too long, or with bytes
+/// that are none of these.
 pub fn any_trace(random: &mut Random) -> Vec<u8> {
     let length = match random.below(24) {
         0 => 0,
@@ -47,10 +50,11 @@ pub fn any_trace(random: &mut Random) -> Vec<u8> {
         _ => any_length(random),
     };
     let mut trace = random_losses(random, length);
+    make_late(random, &mut trace);
     if !trace.is_empty() && random.below(8) == 0 {
         for _ in 0..=random.below(2) {
             let place = random.below(trace.len());
-            trace[place] = random.one_of(&[2, 2, 2, 3, 128, 129, 255]);
+            trace[place] = random.one_of(&[3, 3, 4, 127, 128, 129, 130, 255]);
         }
     }
     trace
@@ -102,7 +106,7 @@ pub fn spoil(random: &mut Random, packed: &mut Packed) {
 pub fn any_settings(random: &mut Random, packed: &Packed) -> (u32, u32) {
     let (mut batch, mut threshold) = match packed.refusal() {
         Some(_) => (1 + random.below(100) as u32, random.below(4) as u32),
-        None => random_settings(random, &packed.trace()),
+        None => random_settings(random, &packed.trace(), Event::Lost),
     };
     match random.below(12) {
         0 => batch = random.one_of(&SETTINGS),

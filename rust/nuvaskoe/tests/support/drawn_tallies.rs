@@ -2,9 +2,8 @@
 
 use super::{
     boundary,
-    measuring::{
-        any_event, library_event, random_gmin, random_spacing, random_trace, EVENTS, LONGEST,
-    },
+    events::{any_event, library_event, EVENTS},
+    measuring::{random_gmin, random_spacing, random_trace, LONGEST},
     tallies::{at_boundary, fields, tally, DURATIONS, FIELDS, LIMITS, PACKETS},
     Random,
 };

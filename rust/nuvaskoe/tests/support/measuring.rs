@@ -5,6 +5,7 @@ use super::{
     answers::{ours, refusal, theirs, Answer},
     batches::spoil,
     boundary::{BurstFigures, DiscardSummary, Figured, LossSummary, Summary},
+    events::{event_numbered, library_event, number_of},
     raw, Random,
 };
 use independent::{
@@ -14,27 +15,10 @@ use independent::{
     trace::Event,
 };
 use nuvaskoe::{
-    block, figures as library, trace,
+    block, figures as library,
     values::{Figure, Rate},
 };
 
-pub const EVENTS: [Event; 2] = [Event::Lost, Event::Discarded];
-/// Numbers that are no event, such as would be one if cut to fewer bits among them.
-pub const NO_EVENTS: [u32; 13] = [
-    0,
-    3,
-    4,
-    127,
-    255,
-    256,
-    257,
-    258,
-    65_537,
-    65_538,
-    1 << 31,
-    (1 << 31) | 1,
-    u32::MAX,
-];
 /// The longest trace.
 pub const LONGEST: usize = 65_536;
 pub const UNAVAILABLE: u16 = burst::UNAVAILABLE;
@@ -72,7 +56,7 @@ pub fn figured(answer: &Answer<Figures>) -> Figured {
 
 /// The same of an event.
 pub fn figures_both(trace: &[u8], gmin: u32, spacing: u32, event: Event) -> Answer<Figures> {
-    figures_numbered(trace, gmin, spacing, event.byte().into())
+    figures_numbered(trace, gmin, spacing, number_of(event))
 }
 
 /// Measures `trace` with the library's safe call and with both independent forms.
@@ -128,6 +112,7 @@ pub fn trace_block_both(
                 .map(block::Block::Discard),
             summary::discard_of_trace(trace, wide_gmin, wide_spacing, source, flag),
         ),
+        Event::Either => unreachable!("no block has these events"),
     };
     let expected = theirs(independent);
     let input = || {
@@ -174,37 +159,6 @@ const NO_DISCARD: DiscardSummary = DiscardSummary {
     burst_rate: 0,
     gap_rate: 0,
 };
-
-/// The event with this number at the boundary: that of such a packet in a trace.
-pub fn event_numbered(number: u32) -> Option<Event> {
-    let mut events = EVENTS.into_iter();
-    events.find(|event| u32::from(event.byte()) == number)
-}
-
-/// An event's number, at times one that is none.
-pub fn any_event(random: &mut Random) -> u32 {
-    let any = random.draw() as u32;
-    match random.below(12) {
-        0 => random.one_of(&NO_EVENTS),
-        1 => any,
-        _ => random.one_of(&EVENTS).byte().into(),
-    }
-}
-
-pub fn library_event(event: Event) -> trace::Event {
-    match event {
-        Event::Lost => trace::Event::Lost,
-        Event::Discarded => trace::Event::Discarded,
-    }
-}
-
-pub fn independent_event(event: trace::Event) -> Event {
-    match event {
-        trace::Event::Lost => Event::Lost,
-        trace::Event::Discarded => Event::Discarded,
-        other => unreachable!("{other:?}"),
-    }
-}
 
 /// The independent figures in the library's words.
 pub fn library_figures(figures: &Figures) -> library::Figures {

@@ -17,6 +17,7 @@ pub mod differences;
 pub mod drawn_packed;
 pub mod drawn_runs;
 pub mod drawn_tallies;
+pub mod events;
 pub mod measuring;
 pub mod numbers;
 pub mod packed;

@@ -4,9 +4,11 @@
 use super::{
     answers::{ours, theirs, written, Answer},
     batches::{independent_loss, whole_loss, whole_marks, LONGEST},
+    events::{event_numbered, library_event, number_of},
     raw,
 };
-use independent::{effective::EffectiveLoss, packed};
+use independent::{effective::EffectiveLoss, packed, trace::Event};
+use nuvaskoe::trace::Event::Lost as ONES; // The byte form of words has 1 for each one.
 
 /// The packets of a word.
 pub const WORD: usize = 64;
@@ -19,14 +21,20 @@ pub struct Packed {
 }
 
 impl Packed {
-    /// The words: "packet i in word i / 64 at bit i modulo 64, one meaning lost", packet by packet.
-    pub fn of(trace: &[u8]) -> Packed {
+    /// The words: "packet i in word i / 64 at bit i modulo 64", "a one for each packet counted by the
+    /// choice it was packed by", packet by packet.
+    pub fn by(event: Event, trace: &[u8]) -> Packed {
         let mut words = vec![0; trace.len().div_ceil(WORD)];
         for (place, packet) in trace.iter().enumerate() {
-            words[place / WORD] |= u64::from(*packet == 1) << (place % WORD);
+            words[place / WORD] |= u64::from(event.counts(*packet)) << (place % WORD);
         }
         let packets = trace.len();
         Packed { words, packets }
+    }
+
+    /// Those by lost only: the ones of a trace of zeros and ones.
+    pub fn of(trace: &[u8]) -> Packed {
+        Packed::by(Event::Lost, trace)
     }
 
     /// Whether a bit of the words is a one.
@@ -34,7 +42,7 @@ impl Packed {
         self.words[place / WORD] >> (place % WORD) & 1 == 1
     }
 
-    /// The trace of words that are not refused.
+    /// The trace of words that are not refused, 1 for each one.
     pub fn trace(&self) -> Vec<u8> {
         let packets = 0..self.packets;
         packets.map(|place| self.bit(place).into()).collect()
@@ -98,44 +106,55 @@ pub fn word_pattern(length: usize) -> Vec<u64> {
         .collect()
 }
 
-/// Packs with both into equal words that hold `before`, and gives the answer and the words on which
-/// they agree. Words after those needed, and all where refused, keep what they held.
-pub fn pack_both(trace: &[u8], before: &[u64]) -> (Answer<usize>, Vec<u64>) {
-    let mut outs = [before.to_vec(), before.to_vec(), before.to_vec()];
-    let [library_out, whole_out, independent_out] = &mut outs;
-    let library = ours(nuvaskoe::packed::pack(trace, library_out));
-    let whole = raw::trace_pack(trace, whole_out);
-    let independent = theirs(packed::pack(trace, independent_out));
-    let input = || {
-        let front: Vec<_> = trace.iter().take(100).map(u8::to_string).collect();
-        let (packets, room) = (trace.len(), before.len());
-        format!("{packets} packets {} into {room} words", front.join(" "))
+/// Packs with all into equal words that hold `before`, and gives the answer and the words on which
+/// they agree. Words after those needed, and all where refused, keep what they held. An event that
+/// is none is refused.
+pub fn pack_numbered(trace: &[u8], event: u32, before: &[u64]) -> (Answer<usize>, Vec<u64>) {
+    let (expected, out) = match event_numbered(event) {
+        None => (Err((15, 0)), before.to_vec()),
+        Some(event) => safe_pack(trace, event, before),
     };
+    let mut whole_out = before.to_vec();
+    let whole = raw::trace_pack(trace, event, &mut whole_out);
+    let shown = || shown(trace, before.len());
+    assert_eq!(whole, written(&expected), "event {event}, {}", shown());
+    assert!(whole_out == out, "event {event}, {}", shown());
+    (expected, out)
+}
+
+/// The same of an event.
+pub fn pack_both(trace: &[u8], event: Event, before: &[u64]) -> (Answer<usize>, Vec<u64>) {
+    pack_numbered(trace, number_of(event), before)
+}
+
+/// The same with the library's safe calls and the independent one.
+fn safe_pack(trace: &[u8], event: Event, before: &[u64]) -> (Answer<usize>, Vec<u64>) {
+    let (mut library_out, mut independent_out) = (before.to_vec(), before.to_vec());
+    let choice = library_event(event);
+    let library = ours(nuvaskoe::packed::pack(trace, choice, &mut library_out));
+    let independent = theirs(packed::pack(trace, event, &mut independent_out));
+    let input = || format!("{event:?}, {}", shown(trace, before.len()));
     assert_eq!(library, independent, "{}", input());
-    assert_eq!(whole, written(&independent), "{}", input());
     assert!(library_out == independent_out, "{}", input());
-    assert!(whole_out == independent_out, "{}", input());
     let size = library.unwrap_or(0);
     assert!(library_out[size..] == before[size..], "{}", input());
     if library.is_ok() {
-        assert!(
-            library_out[..size] == Packed::of(trace).words,
-            "{}",
-            input()
-        );
+        let words = Packed::by(event, trace).words;
+        assert!(library_out[..size] == words, "{}", input());
     }
-    check_own_words(trace, library, library_out);
-    let [out, ..] = outs;
-    (library, out)
-}
-
-/// By the call that makes room itself the words are the same, and the refusals but 8 too.
-fn check_own_words(trace: &[u8], answer: Answer<usize>, out: &[u64]) {
-    match (answer, ours(nuvaskoe::packed::words_of(trace))) {
-        (Ok(size), Ok(own)) => assert!(own == out[..size]),
-        (Err((8, 0)), Ok(own)) => assert!(own.len() > out.len()),
+    // By the call that makes room itself the words are the same, and the refusals but 8 too.
+    match (library, ours(nuvaskoe::packed::words_of(trace, choice))) {
+        (Ok(size), Ok(own)) => assert!(own == library_out[..size]),
+        (Err((8, 0)), Ok(own)) => assert!(own.len() > before.len()),
         (answer, own) => assert_eq!(answer.err(), own.err()),
     }
+    (library, library_out)
+}
+
+fn shown(trace: &[u8], room: usize) -> String {
+    let front: Vec<_> = trace.iter().take(100).map(u8::to_string).collect();
+    let packets = trace.len();
+    format!("{packets} packets {} into {room} words", front.join(" "))
 }
 
 /// Unpacks with both into equal bytes that hold `before`, in the same way.
@@ -177,7 +196,7 @@ pub fn packed_loss_both(input: &Packed, (batch, threshold): (u32, u32)) -> Answe
     let independent = theirs(packed::packed_loss(words, *packets, b, t));
     assert_eq!(library, independent, "{}", shown());
     if library.is_ok() {
-        let bytes = nuvaskoe::effective::effective_loss(&input.trace(), batch, threshold);
+        let bytes = nuvaskoe::effective::effective_loss(&input.trace(), batch, threshold, ONES);
         assert_eq!(library, ours(bytes).map(independent_loss), "{}", shown());
     }
     library
@@ -210,7 +229,7 @@ pub fn packed_plan_into(
     assert!(whole_out == independent_out, "{}", shown());
     if library.is_ok() {
         let (trace, mut bytes) = (input.trace(), before.to_vec());
-        let answer = nuvaskoe::resend::plan(&trace, batch, threshold, &mut bytes);
+        let answer = nuvaskoe::resend::plan(&trace, batch, threshold, ONES, &mut bytes);
         assert_eq!(library, ours(answer), "{}", shown());
         assert!(*library_out == bytes, "{}", shown());
     }

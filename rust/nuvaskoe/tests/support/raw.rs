@@ -131,22 +131,23 @@ pub fn discard_of_trace(trace: &[u8], gmin: u32, spacing: u32, source: u32, flag
     unsafe { boundary::nuvaskoe_discard_of_trace(start, length, gmin, spacing, source, flag) }
 }
 
-pub fn effective_loss(trace: &[u8], batch: u32, threshold: u32) -> Loss {
+pub fn effective_loss(trace: &[u8], batch: u32, threshold: u32, event: u32) -> Loss {
+    let (start, length) = (trace.as_ptr(), trace.len());
     // SAFETY: as above.
-    unsafe { boundary::nuvaskoe_effective_loss(trace.as_ptr(), trace.len(), batch, threshold) }
+    unsafe { boundary::nuvaskoe_effective_loss(start, length, batch, threshold, event) }
 }
 
-pub fn resend_plan(trace: &[u8], batch: u32, threshold: u32, out: &mut [u8]) -> Marks {
+pub fn resend_plan(trace: &[u8], batch: u32, threshold: u32, event: u32, out: &mut [u8]) -> Marks {
     let (start, length) = (trace.as_ptr(), trace.len());
     let (out, room) = (out.as_mut_ptr(), out.len());
     // SAFETY: as above.
-    unsafe { boundary::nuvaskoe_resend_plan(start, length, batch, threshold, out, room) }
+    unsafe { boundary::nuvaskoe_resend_plan(start, length, batch, threshold, event, out, room) }
 }
 
-pub fn trace_pack(trace: &[u8], out: &mut [u64]) -> Written {
+pub fn trace_pack(trace: &[u8], event: u32, out: &mut [u64]) -> Written {
     let (start, length) = (trace.as_ptr(), trace.len());
     // SAFETY: as above.
-    unsafe { boundary::nuvaskoe_trace_pack(start, length, out.as_mut_ptr(), out.len()) }
+    unsafe { boundary::nuvaskoe_trace_pack(start, length, event, out.as_mut_ptr(), out.len()) }
 }
 
 pub fn trace_unpack(words: &[u64], packets: usize, out: &mut [u8]) -> Written {

@@ -5,10 +5,8 @@ use super::{
     adding::library_block,
     answers::{ours, refusal, theirs, Answer},
     boundary::{self, Tallied},
-    measuring::{
-        event_numbered, figured, independent_event, independent_figures, library_event, summarized,
-        LONGEST,
-    },
+    events::{event_numbered, independent_event, library_event, number_of},
+    measuring::{figured, independent_figures, summarized, LONGEST},
     raw,
 };
 use independent::{block::Block, burst::Figures, late_tally, summary, tally::Tally as Independent};
@@ -94,7 +92,7 @@ pub fn close_numbered(given: boundary::Tally) -> Answer<Figures> {
     expected
 }
 
-/// The tally's block, on which all agree.
+/// The tally's block, on which all agree; one that counts either has none.
 pub fn tally_block_numbered(given: boundary::Tally, source: u32, flag: u8) -> Answer<Block> {
     let expected = match independent_numbers(&given) {
         None => Err((15, 0)),
@@ -112,7 +110,7 @@ pub fn tally_block_numbered(given: boundary::Tally, source: u32, flag: u8) -> An
 
 /// The same calls on the library's own tallies.
 pub fn open_both(gmin: u32, spacing: u32, event: Event) -> Answer<Tally> {
-    let number = independent_event(event).byte().into();
+    let number = number_of(independent_event(event));
     open_numbered(gmin, spacing, number).map(|numbers| known(&numbers))
 }
 
@@ -134,7 +132,7 @@ fn known(numbers: &boundary::Tally) -> Tally {
 }
 
 pub fn tally(gmin: u32, spacing: u32, event: Event, fields: [u64; FIELDS]) -> Tally {
-    let number = independent_event(event).byte().into();
+    let number = number_of(independent_event(event));
     known(&numbered(gmin, spacing, number, fields))
 }
 
@@ -185,7 +183,7 @@ pub fn fields(tally: &Tally) -> [u64; FIELDS] {
 
 /// The library's tally in the numbers of the boundary.
 pub fn at_boundary(tally: &Tally) -> boundary::Tally {
-    let event = independent_event(tally.event).byte().into();
+    let event = number_of(independent_event(tally.event));
     numbered(tally.gmin, tally.spacing, event, fields(tally))
 }
 
@@ -247,6 +245,6 @@ fn of_independent(tally: &Independent) -> boundary::Tally {
         tally.open_packets,
         tally.open_gap,
     ];
-    let event = tally.event.byte().into();
+    let event = number_of(tally.event);
     numbered(tally.gmin as u32, tally.spacing as u32, event, fields)
 }

@@ -2,9 +2,11 @@
 
 use super::{call, number, Call};
 use crate::support::{
-    batches::{any_settings, any_trace, loss_both, plan_into},
+    batches::{any_settings, any_trace, loss_numbered, plan_numbered},
+    events::{any_event, event_numbered},
     pattern, Random,
 };
+use independent::trace::Event;
 
 pub fn calls() -> Vec<Call> {
     vec![
@@ -12,25 +14,29 @@ pub fn calls() -> Vec<Call> {
             "effective_loss",
             &[15, 10, 9, 14],
             batched,
-            |(trace, (batch, threshold))| number(&loss_both(trace, *batch, *threshold)),
+            |(trace, (batch, threshold), event)| {
+                number(&loss_numbered(trace, *batch, *threshold, *event))
+            },
         ),
         call(
             "resend_plan",
             &[15, 10, 9, 14, 8],
             |random| {
-                let (trace, settings) = batched(random);
+                let (trace, settings, event) = batched(random);
                 let out = lent(random, trace.len());
-                (trace, settings, out)
+                (trace, settings, event, out)
             },
-            |(trace, (batch, threshold), out)| number(&plan_into(trace, *batch, *threshold, out).0),
+            |(trace, settings, event, out)| number(&plan_numbered(trace, *settings, *event, out).0),
         ),
     ]
 }
 
-fn batched(random: &mut Random) -> (Vec<u8>, (u32, u32)) {
-    let trace = any_trace(random);
-    let settings = any_settings(random, &trace);
-    (trace, settings)
+/// A trace, a batch and a threshold, and the number of an event or one that is none.
+fn batched(random: &mut Random) -> (Vec<u8>, (u32, u32), u32) {
+    let (trace, event) = (any_trace(random), any_event(random));
+    let counted = event_numbered(event).unwrap_or(Event::Lost);
+    let settings = any_settings(random, &trace, counted);
+    (trace, settings, event)
 }
 
 /// A buffer for the plan of so many packets, or a shorter one, that holds anything.

@@ -4,9 +4,10 @@ use super::{call, number, Call};
 use crate::support::{
     boundary::Tally,
     drawn_tallies::any_numbers,
+    events::any_event,
     measuring::{
-        any_event, any_figures, any_report, any_settings, any_trace, discard_block_both,
-        figures_numbered, loss_block_both, trace_block_both,
+        any_figures, any_report, any_settings, any_trace, discard_block_both, figures_numbered,
+        loss_block_both, trace_block_both,
     },
     tallies::{close_numbered, open_numbered, take_numbered, tally_block_numbered},
     Random,

@@ -4,17 +4,21 @@ use super::{call, number, Call};
 use crate::support::{
     batches::LONGEST,
     drawn_packed::{any_packed, any_settings, any_trace, room},
+    events::any_event,
     packed::{
-        pack_both, packed_loss_both, packed_plan_into, unpack_both, word_pattern, Packed, WORD,
+        pack_numbered, packed_loss_both, packed_plan_into, unpack_both, word_pattern, Packed, WORD,
     },
     pattern, Random,
 };
 
 pub fn calls() -> Vec<Call> {
     vec![
-        call("trace_pack", &[10, 9, 8], packing, |(trace, out)| {
-            number(&pack_both(trace, out).0)
-        }),
+        call(
+            "trace_pack",
+            &[15, 10, 9, 8],
+            packing,
+            |(trace, event, out)| number(&pack_numbered(trace, *event, out).0),
+        ),
         call(
             "trace_unpack",
             &[10, 8, 9],
@@ -44,15 +48,15 @@ pub fn calls() -> Vec<Call> {
     ]
 }
 
-fn packing(random: &mut Random) -> (Vec<u8>, Vec<u64>) {
-    let trace = any_trace(random);
+fn packing(random: &mut Random) -> (Vec<u8>, u32, Vec<u64>) {
+    let (trace, event) = (any_trace(random), any_event(random));
     let room = room(random, trace.len().div_ceil(WORD));
     let out = match random.below(4) {
         0 => vec![u64::MAX; room],
         1 => (0..room).map(|_| random.draw()).collect(),
         _ => word_pattern(room),
     };
-    (trace, out)
+    (trace, event, out)
 }
 
 fn batched(random: &mut Random) -> (Packed, (u32, u32)) {
