@@ -22,6 +22,8 @@
 //!   `loss` effective loss; in rows "B x by B y" both times are ours, with batches of x and y;
 //! - packed traces, a bit a packet: `pack` and `unpack` a trace, `loss` and `plan` as above; in rows
 //!   "packed by bytes" both times are ours, of the trace packed and in bytes;
+//! - in rows "mixed by" the packets of the choice named count, on a trace with 2 % lost and 4 %
+//!   discarded; in all other rows of `figs`, `plan`, `loss`, `pack` and tallies it is the lost ones;
 //! - tallies: `open`, `take` one packet and `close`, after as many packets as there are bytes
 //!   in the row; `tally` is all three over the trace named, each packet taken in turn;
 //! - `block` makes the block of a trace, of a tally or of figures;
@@ -32,6 +34,7 @@ mod support;
 
 mod batches;
 mod cards;
+mod choices;
 mod comparing;
 mod measuring;
 mod packed;
@@ -99,5 +102,6 @@ fn main() {
     tallies::time(&traces);
     batches::time();
     packed::time();
+    choices::time();
     panels::time();
 }

@@ -3,7 +3,8 @@
 use super::{
     print, race,
     support::{
-        measuring::{figures_both, library_event, trace_block_both, LONGEST},
+        events::library_event,
+        measuring::{figures_both, trace_block_both, LONGEST},
         Random,
     },
 };
@@ -21,7 +22,7 @@ pub type Named = (&'static str, Vec<u8>);
 
 pub fn time(traces: &[Named]) {
     for (name, trace) in traces {
-        time_trace(name, trace);
+        time_trace(name, trace, Event::Lost);
     }
     let (_, one_in_20) = &traces[0];
     time_loss("5 % lost, its 17", one_in_20);
@@ -56,13 +57,13 @@ fn bursty(random: &mut Random) -> Vec<u8> {
     trace
 }
 
-fn time_trace(name: &str, trace: &[u8]) {
-    figures_both(trace, GMIN, SPACING, Event::Lost).expect("a good trace");
-    let event = library_event(Event::Lost);
+pub fn time_trace(name: &str, trace: &[u8], event: Event) {
+    figures_both(trace, GMIN, SPACING, event).expect("a good trace");
+    let choice = library_event(event);
     let (wide_gmin, wide_spacing) = (GMIN.into(), SPACING.into());
     let times = race(
-        || figures::of_trace(black_box(trace), GMIN, SPACING, event),
-        || burst::running_figures(black_box(trace), wide_gmin, wide_spacing, Event::Lost),
+        || figures::of_trace(black_box(trace), GMIN, SPACING, choice),
+        || burst::running_figures(black_box(trace), wide_gmin, wide_spacing, event),
     );
     print(name, trace.len(), "figs", times);
 }

@@ -5,30 +5,31 @@ use super::{
     print, race,
     support::{
         batches::{bursty_losses, random_losses, LONGEST},
+        events::library_event,
         packed::{
             pack_both, packed_loss_both, packed_plan_into, unpack_both, word_pattern, Packed,
         },
         Random,
     },
 };
-use independent::packed as theirs;
-use nuvaskoe::{effective, packed as ours, resend};
+use independent::{packed as theirs, trace::Event};
+use nuvaskoe::{effective, packed as ours, resend, trace::Event::Lost};
 use std::{hint::black_box, mem::size_of_val};
 
 /// Batch lengths and thresholds, those of the byte form among them.
 const SETTINGS: [(u32, u32); 4] = [(1, 0), (2, 1), (100, 5), (1_024, 52)];
 
 /// The packets of a short trace.
-const SHORT: usize = 100;
+pub const SHORT: usize = 100;
 
 pub fn time() {
     let mut random = Random::new("bench packed");
     let few_lost = random_losses(&mut random, LONGEST, 5, 0);
     for (name, trace) in [("", &few_lost[..]), (", short", &few_lost[..SHORT])] {
-        time_pack(&format!("5 % lost{name}"), trace);
+        time_pack(&format!("5 % lost{name}"), trace, Event::Lost);
         time_unpack(&format!("5 % lost{name}"), trace);
     }
-    // Discarded packets have no place in words.
+    // Those of a trace that was packed by lost only.
     let bursty = bursty_losses(&mut random, LONGEST).into_iter();
     let traces = [
         ("5 % lost", few_lost),
@@ -50,16 +51,15 @@ pub fn time() {
     }
 }
 
-fn time_pack(name: &str, trace: &[u8]) {
-    let words = Packed::of(trace).words;
+pub fn time_pack(name: &str, trace: &[u8], event: Event) {
+    let words = Packed::by(event, trace).words;
     let (mut our_words, mut their_words) = (word_pattern(words.len()), word_pattern(words.len()));
-    assert_eq!(
-        pack_both(trace, &our_words),
-        (Ok(words.len()), words.clone())
-    );
+    let (answer, packed) = pack_both(trace, event, &our_words);
+    assert!(answer == Ok(words.len()) && packed == words);
+    let choice = library_event(event);
     let times = race(
-        || ours::pack(black_box(trace), black_box(&mut our_words)),
-        || theirs::pack(black_box(trace), black_box(&mut their_words)),
+        || ours::pack(black_box(trace), choice, black_box(&mut our_words)),
+        || theirs::pack(black_box(trace), event, black_box(&mut their_words)),
     );
     assert!(our_words == words && their_words == words);
     print(name, trace.len(), "pack", times);
@@ -90,7 +90,7 @@ fn time_loss(name: &str, trace: &[u8], (batch, threshold): (u32, u32)) {
     });
     print(&packed_name(name, batch, threshold), size, "loss", times);
     let times = race(call, || {
-        effective::effective_loss(black_box(trace), batch, threshold)
+        effective::effective_loss(black_box(trace), batch, threshold, Lost)
     });
     print(&by_name(name, batch), size, "loss", times);
 }
@@ -114,7 +114,7 @@ fn time_plan(name: &str, trace: &[u8], (batch, threshold): (u32, u32)) {
     let mut plan_of_bytes = vec![7; trace.len()];
     let times = race(&mut call, || {
         let out = black_box(&mut plan_of_bytes);
-        resend::plan(black_box(trace), batch, threshold, out)
+        resend::plan(black_box(trace), batch, threshold, Lost, out)
     });
     assert!(our_plan == plan && their_plan == plan && plan_of_bytes == plan);
     print(&by_name(name, batch), size, "plan", times);

@@ -5,10 +5,8 @@ use super::{
     measuring::{Named, GMIN, REPORT, SPACING},
     print, race,
     support::{
-        measuring::{
-            discard_block_both, figures_both, library_event, library_figures, loss_block_both,
-            LONGEST,
-        },
+        events::library_event,
+        measuring::{discard_block_both, figures_both, library_figures, loss_block_both, LONGEST},
         tallies::{close_both, open_both, take_both, tally_block_both},
     },
 };
