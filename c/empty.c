@@ -103,9 +103,9 @@ static void check_traces(void)
     CHECK(refused(nuvaskoe_figures(NULL, 0, 16, 400, NUVASKOE_EVENT_LOST).refusal, NUVASKOE_REFUSAL_TRACE_LENGTH));
     CHECK(refused(nuvaskoe_loss_of_trace(NULL, 0, 16, 400, 2, 1).refusal, NUVASKOE_REFUSAL_TRACE_LENGTH));
     CHECK(refused(nuvaskoe_discard_of_trace(NULL, 0, 16, 400, 2, 1).refusal, NUVASKOE_REFUSAL_TRACE_LENGTH));
-    CHECK(refused(nuvaskoe_effective_loss(NULL, 0, 1, 0).refusal, NUVASKOE_REFUSAL_TRACE_LENGTH));
-    CHECK(refused(nuvaskoe_resend_plan(NULL, 0, 1, 0, NULL, 0).refusal, NUVASKOE_REFUSAL_TRACE_LENGTH));
-    CHECK(refused(nuvaskoe_resend_plan(&lost, 1, 1, 0, NULL, 0).refusal, NUVASKOE_REFUSAL_BUFFER_SHORT));
+    CHECK(refused(nuvaskoe_effective_loss(NULL, 0, 1, 0, NUVASKOE_EVENT_LOST).refusal, NUVASKOE_REFUSAL_TRACE_LENGTH));
+    CHECK(refused(nuvaskoe_resend_plan(NULL, 0, 1, 0, NUVASKOE_EVENT_LOST, NULL, 0).refusal, NUVASKOE_REFUSAL_TRACE_LENGTH));
+    CHECK(refused(nuvaskoe_resend_plan(&lost, 1, 1, 0, NUVASKOE_EVENT_LOST, NULL, 0).refusal, NUVASKOE_REFUSAL_BUFFER_SHORT));
 }
 
 /* Words, the trace that they are packed from or unpacked to, and a plan. */
@@ -116,9 +116,9 @@ static void check_packed(void)
     uint64_t held_word = 7;
     uint8_t held = 7;
 
-    CHECK(refused(nuvaskoe_trace_pack(NULL, 0, NULL, 0).refusal, NUVASKOE_REFUSAL_TRACE_LENGTH));
-    CHECK(refused(nuvaskoe_trace_pack(NULL, 0, &held_word, 1).refusal, NUVASKOE_REFUSAL_TRACE_LENGTH));
-    CHECK(refused(nuvaskoe_trace_pack(&lost, 1, NULL, 0).refusal, NUVASKOE_REFUSAL_BUFFER_SHORT));
+    CHECK(refused(nuvaskoe_trace_pack(NULL, 0, NUVASKOE_EVENT_LOST, NULL, 0).refusal, NUVASKOE_REFUSAL_TRACE_LENGTH));
+    CHECK(refused(nuvaskoe_trace_pack(NULL, 0, NUVASKOE_EVENT_LOST, &held_word, 1).refusal, NUVASKOE_REFUSAL_TRACE_LENGTH));
+    CHECK(refused(nuvaskoe_trace_pack(&lost, 1, NUVASKOE_EVENT_LOST, NULL, 0).refusal, NUVASKOE_REFUSAL_BUFFER_SHORT));
     CHECK(refused(nuvaskoe_trace_unpack(NULL, 0, 0, NULL, 0).refusal, NUVASKOE_REFUSAL_TRACE_LENGTH));
     CHECK(refused(nuvaskoe_trace_unpack(NULL, 0, 1, &held, 1).refusal, NUVASKOE_REFUSAL_BUFFER_SHORT));
     CHECK(refused(nuvaskoe_trace_unpack(&word, 1, 1, NULL, 0).refusal, NUVASKOE_REFUSAL_BUFFER_SHORT));

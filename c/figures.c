@@ -91,7 +91,7 @@ static void check_figures(void)
 
 static void check_figures_refused(void)
 {
-    static const uint32_t events[5] = {0, 3, 257, 0x10001, UINT32_MAX};
+    static const uint32_t events[5] = {0, 4, 257, 0x10001, UINT32_MAX};
     static const uint8_t bad[4] = {0, 2, 3, 255};
     size_t i;
     for (i = 0; i < 5; i++) {
@@ -156,7 +156,7 @@ static void check_tally(void)
 static void check_tally_refused(void)
 {
     static const uint32_t settings[6][3] = {{0, 1000, 1},  {256, 1000, 1}, {16, 0, 1},
-                                            {16, 40001, 1}, {16, 1000, 0},  {16, 1000, 3}};
+                                            {16, 40001, 1}, {16, 1000, 0},  {16, 1000, 4}};
     static const nuvaskoe_tally nothing;
     nuvaskoe_tally tally = odd_tally();
     size_t i;
@@ -319,10 +319,10 @@ static void check_trace_blocks_refused(void)
     CHECK(no_block(nuvaskoe_discard_of_trace(bad, 4, 2, 1000, 7, 3), NUVASKOE_REFUSAL_TRACE_BYTE, 2));
 }
 
-/* The kind of a tally's block is that of its event, and an event that is none has no kind. */
+/* The kind of a tally's block is that of its event; either has none, and so has a number that is no event. */
 static void check_tally_block(void)
 {
-    static const uint32_t events[5] = {0, 3, 257, 0x10001, UINT32_MAX};
+    static const uint32_t events[5] = {0, NUVASKOE_EVENT_EITHER, 4, 257, UINT32_MAX};
     nuvaskoe_tally tally = odd_tally();
     size_t i;
     CHECK(is_loss(nuvaskoe_tally_block(tally, 7, 3), 25746, 0, 5, 1));

@@ -1,5 +1,5 @@
-/* packed.c: packed traces through the C boundary, by plain comparisons: traces packed and unpacked, and the effective loss and
- * the plan of packed ones beside those of the same trace in bytes. */
+/* packed.c: packed traces through the C boundary, by plain comparisons: traces packed by each event and unpacked, and the effective
+ * loss and the plan of packed ones beside those of the same trace in bytes. */
 #include <string.h>
 
 #include "check.h"
@@ -88,7 +88,7 @@ static void check_examples(void)
     nuvaskoe_loss loss;
 
     hold();
-    CHECK(answered(nuvaskoe_trace_pack(losses, 9, words, WORDS_MAX + 2), 1));
+    CHECK(answered(nuvaskoe_trace_pack(losses, 9, NUVASKOE_EVENT_LOST, words, WORDS_MAX + 2), 1));
     CHECK(words[0] == their_word && words_held(1));
     CHECK(answered(nuvaskoe_trace_unpack(&their_word, 1, 9, out, sizeof out), 9));
     CHECK(memcmp(out, losses, 9) == 0 && held(9));
@@ -109,29 +109,49 @@ static void check_examples(void)
     CHECK(out[64] == 1 && memchr(out, 1, 64) == NULL);
 }
 
-/* Every number of packets up to some words: there and back, and the byte form's answers. */
+/* Whether an event counts a packet. */
+static uint8_t counts(uint32_t event, uint8_t packet)
+{
+    return (packet == 1 && event != NUVASKOE_EVENT_DISCARDED) || (packet == 2 && event != NUVASKOE_EVENT_LOST);
+}
+
+/* The trace packed by an event: bit by bit, unpacked again, and the byte form's answers by that event. */
+static void check_form(size_t packets, uint32_t event)
+{
+    size_t needed = (packets + WORD - 1) / WORD, i;
+    uint32_t batch = (uint32_t)(1 + packets / 2);
+    nuvaskoe_loss loss = nuvaskoe_effective_loss(trace, packets, batch, 3, event);
+    size_t marks;
+
+    hold();
+    CHECK(answered(nuvaskoe_trace_pack(trace, packets, event, words, needed), needed) && words_held(needed));
+    for (i = 0; i < WORD * needed; i++) {
+        CHECK((words[i / WORD] >> (i % WORD) & 1) == (i < packets ? counts(event, trace[i]) : 0));
+    }
+    CHECK(answered(nuvaskoe_trace_unpack(words, needed, packets, out, packets), packets) && held(packets));
+    for (i = 0; i < packets; i++) {
+        CHECK(out[i] == counts(event, trace[i]));
+    }
+    CHECK(loss.refusal.number == NUVASKOE_OK);
+    CHECK(same_loss(nuvaskoe_packed_loss(words, needed, packets, batch, 3), loss));
+    memset(other, HELD, sizeof other);
+    marks = nuvaskoe_resend_plan(trace, packets, batch, 3, event, other, sizeof other).marks;
+    CHECK(marked(nuvaskoe_packed_plan(words, needed, packets, batch, 3, out, sizeof out), marks));
+    CHECK(memcmp(out, other, sizeof out) == 0);
+}
+
+/* Every number of packets up to some words, received, lost and discarded ones mixed. */
 static void check_both_forms(void)
 {
     size_t packets, i;
+    uint32_t event;
     for (packets = 1; packets <= 200; packets++) {
-        size_t needed = (packets + WORD - 1) / WORD;
-        uint32_t batch = (uint32_t)(1 + packets / 2);
-
         for (i = 0; i < packets; i++) {
-            trace[i] = (uint8_t)((i * i + packets) % 3 == 0);
+            trace[i] = (uint8_t)((i * i / 4 + packets) % 3);
         }
-        hold();
-        CHECK(answered(nuvaskoe_trace_pack(trace, packets, words, needed), needed) && words_held(needed));
-        for (i = 0; i < WORD * needed; i++) {
-            CHECK((words[i / WORD] >> (i % WORD) & 1) == (i < packets ? trace[i] : 0));
+        for (event = NUVASKOE_EVENT_LOST; event <= NUVASKOE_EVENT_EITHER; event++) {
+            check_form(packets, event);
         }
-        CHECK(answered(nuvaskoe_trace_unpack(words, needed, packets, out, packets), packets));
-        CHECK(memcmp(out, trace, packets) == 0 && held(packets));
-        CHECK(same_loss(nuvaskoe_packed_loss(words, needed, packets, batch, 3), nuvaskoe_effective_loss(trace, packets, batch, 3)));
-        memset(other, HELD, sizeof other);
-        CHECK(nuvaskoe_packed_plan(words, needed, packets, batch, 3, out, sizeof out).marks ==
-              nuvaskoe_resend_plan(trace, packets, batch, 3, other, sizeof other).marks);
-        CHECK(memcmp(out, other, sizeof out) == 0);
     }
 }
 
@@ -160,16 +180,19 @@ static void check_words_behind(void)
 static void check_refusals(void)
 {
     static const uint64_t full[2] = {UINT64_MAX, UINT64_MAX};
+    uint32_t event;
 
     hold();
     memset(trace, 0, sizeof trace);
-    trace[3] = 2;
-    CHECK(refused(nuvaskoe_trace_pack(trace, 0, words, 0), NUVASKOE_REFUSAL_TRACE_LENGTH, 0));
-    CHECK(refused(nuvaskoe_trace_pack(trace, NUVASKOE_TRACE_MAX + 1, words, 0), NUVASKOE_REFUSAL_TRACE_LENGTH, 0));
-    CHECK(refused(nuvaskoe_trace_pack(trace, 65, words, 1), NUVASKOE_REFUSAL_TRACE_BYTE, 3));
-    trace[3] = 1;
-    CHECK(refused(nuvaskoe_trace_pack(trace, 65, words, 1), NUVASKOE_REFUSAL_BUFFER_SHORT, 0));
-    CHECK(refused(nuvaskoe_trace_pack(trace, NUVASKOE_TRACE_MAX, words, WORDS_MAX - 1), NUVASKOE_REFUSAL_BUFFER_SHORT, 0));
+    for (event = NUVASKOE_EVENT_LOST; event <= NUVASKOE_EVENT_EITHER; event++) {
+        trace[3] = 3;
+        CHECK(refused(nuvaskoe_trace_pack(trace, 0, event, words, 0), NUVASKOE_REFUSAL_TRACE_LENGTH, 0));
+        CHECK(refused(nuvaskoe_trace_pack(trace, NUVASKOE_TRACE_MAX + 1, event, words, 0), NUVASKOE_REFUSAL_TRACE_LENGTH, 0));
+        CHECK(refused(nuvaskoe_trace_pack(trace, 65, event, words, 1), NUVASKOE_REFUSAL_TRACE_BYTE, 3));
+        trace[3] = 2;
+        CHECK(refused(nuvaskoe_trace_pack(trace, 65, event, words, 1), NUVASKOE_REFUSAL_BUFFER_SHORT, 0));
+        CHECK(refused(nuvaskoe_trace_pack(trace, NUVASKOE_TRACE_MAX, event, words, WORDS_MAX - 1), NUVASKOE_REFUSAL_BUFFER_SHORT, 0));
+    }
 
     CHECK(refused(nuvaskoe_trace_unpack(full, 0, 0, out, 0), NUVASKOE_REFUSAL_TRACE_LENGTH, 0));
     CHECK(refused(nuvaskoe_trace_unpack(full, 2, NUVASKOE_TRACE_MAX + 1, out, 0), NUVASKOE_REFUSAL_TRACE_LENGTH, 0));
@@ -210,7 +233,7 @@ static void check_longest(void)
 
     hold();
     memset(trace, 1, sizeof trace);
-    CHECK(answered(nuvaskoe_trace_pack(trace, NUVASKOE_TRACE_MAX, words, WORDS_MAX + 2), WORDS_MAX));
+    CHECK(answered(nuvaskoe_trace_pack(trace, NUVASKOE_TRACE_MAX, NUVASKOE_EVENT_LOST, words, WORDS_MAX + 2), WORDS_MAX));
     CHECK(words[0] == UINT64_MAX && words[WORDS_MAX - 1] == UINT64_MAX && words_held(WORDS_MAX));
     loss = nuvaskoe_packed_loss(words, WORDS_MAX, NUVASKOE_TRACE_MAX, 1, 0);
     CHECK(loss.over == 65536 && loss.batches == 65536 && loss.index == 65535 && loss.first == 0);

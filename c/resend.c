@@ -1,4 +1,5 @@
-/* resend.c: effective loss and the resend plan through the C boundary, by plain comparisons. */
+/* resend.c: effective loss and the resend plan through the C boundary, by plain comparisons. Lost packets count here; choices.c has
+ * the other choices. */
 #include <string.h>
 
 #include "check.h"
@@ -15,6 +16,16 @@ static const uint8_t lost[3] = { 1, 1, 1 };
 
 static uint8_t trace[NUVASKOE_TRACE_MAX + 1];
 static uint8_t out[NUVASKOE_TRACE_MAX + 4];
+
+static nuvaskoe_loss loss_of(const uint8_t *packets, size_t count, uint32_t batch, uint32_t threshold)
+{
+    return nuvaskoe_effective_loss(packets, count, batch, threshold, NUVASKOE_EVENT_LOST);
+}
+
+static nuvaskoe_marks plan_of(const uint8_t *packets, size_t count, uint32_t batch, uint32_t threshold, uint8_t *room, size_t size)
+{
+    return nuvaskoe_resend_plan(packets, count, batch, threshold, NUVASKOE_EVENT_LOST, room, size);
+}
 
 static int loss_is(nuvaskoe_loss answer, size_t over, size_t batches, uint32_t index)
 {
@@ -64,22 +75,22 @@ static int held(size_t from)
 
 static void check_examples(void)
 {
-    nuvaskoe_loss loss = nuvaskoe_effective_loss(losses, 9, 3, 1);
+    nuvaskoe_loss loss = loss_of(losses, 9, 3, 1);
 
     CHECK(loss_is(loss, 4, 7, 37448) && first_is(loss, 0));
-    loss = nuvaskoe_effective_loss(received, 3, 3, 0);
+    loss = loss_of(received, 3, 3, 0);
     CHECK(loss_is(loss, 0, 1, 0) && none_over(loss));
-    loss = nuvaskoe_effective_loss(lost, 3, 1, 0);
+    loss = loss_of(lost, 3, 1, 0);
     CHECK(loss_is(loss, 3, 3, 65535) && first_is(loss, 0));
-    CHECK(loss_refused(nuvaskoe_effective_loss(lost, 1, 2, 0), NUVASKOE_REFUSAL_BATCH_LENGTH, 0));
+    CHECK(loss_refused(loss_of(lost, 1, 2, 0), NUVASKOE_REFUSAL_BATCH_LENGTH, 0));
 
     memset(out, HELD, sizeof out);
-    CHECK(marked(nuvaskoe_resend_plan(losses, 9, 3, 1, out, sizeof out), 2));
+    CHECK(marked(plan_of(losses, 9, 3, 1, out, sizeof out), 2));
     CHECK(memcmp(out, its_plan, 9) == 0);
     CHECK(held(9));
-    CHECK(marked(nuvaskoe_resend_plan(received, 3, 3, 0, out, 3), 0));
+    CHECK(marked(plan_of(received, 3, 3, 0, out, 3), 0));
     CHECK(memcmp(out, received, 3) == 0 && memcmp(out + 3, its_plan + 3, 6) == 0);
-    CHECK(marked(nuvaskoe_resend_plan(lost, 3, 1, 0, out, 3), 3));
+    CHECK(marked(plan_of(lost, 3, 1, 0, out, 3), 3));
     CHECK(memcmp(out, lost, 3) == 0 && memcmp(out + 3, its_plan + 3, 6) == 0);
 }
 
@@ -93,16 +104,16 @@ static void check_resent(void)
     for (i = 0; i < 9; i++) {
         resent[i] = its_plan[i] ? 0 : losses[i];
     }
-    loss = nuvaskoe_effective_loss(resent, 9, 3, 1);
+    loss = loss_of(resent, 9, 3, 1);
     CHECK(loss_is(loss, 0, 7, 0) && none_over(loss));
-    loss = nuvaskoe_effective_loss(resent, 9, 3, 0);
+    loss = loss_of(resent, 9, 3, 0);
     CHECK(loss_is(loss, 5, 7, 46810) && first_is(loss, 0));
 
-    /* A discarded packet is no loss, and a batch may be the whole trace. */
+    /* By lost only a discarded packet is no loss, and a batch may be the whole trace. */
     resent[1] = 2;
-    loss = nuvaskoe_effective_loss(resent, 9, 3, 0);
+    loss = loss_of(resent, 9, 3, 0);
     CHECK(loss_is(loss, 3, 7, 28086) && first_is(loss, 2));
-    loss = nuvaskoe_effective_loss(resent, 9, 9, 0);
+    loss = loss_of(resent, 9, 9, 0);
     CHECK(loss_is(loss, 1, 1, 65535) && first_is(loss, 0));
 }
 
@@ -113,23 +124,23 @@ static void check_refusals(void)
 
     memset(trace, 3, sizeof trace);
     memset(out, HELD, sizeof out);
-    CHECK(loss_refused(nuvaskoe_effective_loss(trace, 0, 0, 0), NUVASKOE_REFUSAL_SETTING, 0));
-    CHECK(loss_refused(nuvaskoe_effective_loss(trace, 0, 1025, 0), NUVASKOE_REFUSAL_SETTING, 0));
-    CHECK(loss_refused(nuvaskoe_effective_loss(trace, 0, 1, 1025), NUVASKOE_REFUSAL_SETTING, 0));
-    CHECK(loss_refused(nuvaskoe_effective_loss(trace, 0, 1024, 1024), NUVASKOE_REFUSAL_TRACE_LENGTH, 0));
-    CHECK(loss_refused(nuvaskoe_effective_loss(trace, NUVASKOE_TRACE_MAX + 1, 1, 0), NUVASKOE_REFUSAL_TRACE_LENGTH, 0));
-    CHECK(loss_refused(nuvaskoe_effective_loss(bad, 5, 6, 0), NUVASKOE_REFUSAL_TRACE_BYTE, 3));
-    CHECK(loss_refused(nuvaskoe_effective_loss(bad, 3, 4, 0), NUVASKOE_REFUSAL_BATCH_LENGTH, 0));
-    CHECK(loss_is(nuvaskoe_effective_loss(bad, 3, 3, 1024), 0, 1, 0));
+    CHECK(loss_refused(loss_of(trace, 0, 0, 0), NUVASKOE_REFUSAL_SETTING, 0));
+    CHECK(loss_refused(loss_of(trace, 0, 1025, 0), NUVASKOE_REFUSAL_SETTING, 0));
+    CHECK(loss_refused(loss_of(trace, 0, 1, 1025), NUVASKOE_REFUSAL_SETTING, 0));
+    CHECK(loss_refused(loss_of(trace, 0, 1024, 1024), NUVASKOE_REFUSAL_TRACE_LENGTH, 0));
+    CHECK(loss_refused(loss_of(trace, NUVASKOE_TRACE_MAX + 1, 1, 0), NUVASKOE_REFUSAL_TRACE_LENGTH, 0));
+    CHECK(loss_refused(loss_of(bad, 5, 6, 0), NUVASKOE_REFUSAL_TRACE_BYTE, 3));
+    CHECK(loss_refused(loss_of(bad, 3, 4, 0), NUVASKOE_REFUSAL_BATCH_LENGTH, 0));
+    CHECK(loss_is(loss_of(bad, 3, 3, 1024), 0, 1, 0));
 
-    CHECK(plan_refused(nuvaskoe_resend_plan(trace, 0, 0, 0, out, 0), NUVASKOE_REFUSAL_SETTING, 0));
-    CHECK(plan_refused(nuvaskoe_resend_plan(trace, 0, 1, UINT32_MAX, out, 0), NUVASKOE_REFUSAL_SETTING, 0));
-    CHECK(plan_refused(nuvaskoe_resend_plan(trace, 0, 1, 0, out, 0), NUVASKOE_REFUSAL_TRACE_LENGTH, 0));
-    CHECK(plan_refused(nuvaskoe_resend_plan(trace, NUVASKOE_TRACE_MAX + 1, 1, 0, out, 0), NUVASKOE_REFUSAL_TRACE_LENGTH, 0));
-    CHECK(plan_refused(nuvaskoe_resend_plan(bad, 5, 6, 0, out, 4), NUVASKOE_REFUSAL_TRACE_BYTE, 3));
-    CHECK(plan_refused(nuvaskoe_resend_plan(bad, 3, 4, 0, out, 2), NUVASKOE_REFUSAL_BATCH_LENGTH, 0));
-    CHECK(plan_refused(nuvaskoe_resend_plan(bad, 3, 3, 0, out, 2), NUVASKOE_REFUSAL_BUFFER_SHORT, 0));
-    CHECK(plan_refused(nuvaskoe_resend_plan(losses, 9, 3, 1, out, 8), NUVASKOE_REFUSAL_BUFFER_SHORT, 0));
+    CHECK(plan_refused(plan_of(trace, 0, 0, 0, out, 0), NUVASKOE_REFUSAL_SETTING, 0));
+    CHECK(plan_refused(plan_of(trace, 0, 1, UINT32_MAX, out, 0), NUVASKOE_REFUSAL_SETTING, 0));
+    CHECK(plan_refused(plan_of(trace, 0, 1, 0, out, 0), NUVASKOE_REFUSAL_TRACE_LENGTH, 0));
+    CHECK(plan_refused(plan_of(trace, NUVASKOE_TRACE_MAX + 1, 1, 0, out, 0), NUVASKOE_REFUSAL_TRACE_LENGTH, 0));
+    CHECK(plan_refused(plan_of(bad, 5, 6, 0, out, 4), NUVASKOE_REFUSAL_TRACE_BYTE, 3));
+    CHECK(plan_refused(plan_of(bad, 3, 4, 0, out, 2), NUVASKOE_REFUSAL_BATCH_LENGTH, 0));
+    CHECK(plan_refused(plan_of(bad, 3, 3, 0, out, 2), NUVASKOE_REFUSAL_BUFFER_SHORT, 0));
+    CHECK(plan_refused(plan_of(losses, 9, 3, 1, out, 8), NUVASKOE_REFUSAL_BUFFER_SHORT, 0));
     CHECK(held(0));
 }
 
@@ -140,21 +151,21 @@ static void check_longest(void)
 
     memset(trace, 1, sizeof trace);
     memset(out, HELD, sizeof out);
-    loss = nuvaskoe_effective_loss(trace, NUVASKOE_TRACE_MAX, 1, 0);
+    loss = loss_of(trace, NUVASKOE_TRACE_MAX, 1, 0);
     CHECK(loss_is(loss, 65536, 65536, 65535) && first_is(loss, 0));
-    CHECK(plan_refused(nuvaskoe_resend_plan(trace, NUVASKOE_TRACE_MAX, 1, 0, out, NUVASKOE_TRACE_MAX - 1), NUVASKOE_REFUSAL_BUFFER_SHORT, 0));
+    CHECK(plan_refused(plan_of(trace, NUVASKOE_TRACE_MAX, 1, 0, out, NUVASKOE_TRACE_MAX - 1), NUVASKOE_REFUSAL_BUFFER_SHORT, 0));
     CHECK(held(0));
-    CHECK(marked(nuvaskoe_resend_plan(trace, NUVASKOE_TRACE_MAX, 1, 0, out, sizeof out), 65536));
+    CHECK(marked(plan_of(trace, NUVASKOE_TRACE_MAX, 1, 0, out, sizeof out), 65536));
     CHECK(memcmp(out, trace, NUVASKOE_TRACE_MAX) == 0);
     CHECK(held(NUVASKOE_TRACE_MAX));
-    CHECK(marked(nuvaskoe_resend_plan(trace, NUVASKOE_TRACE_MAX, 1024, 1000, out, NUVASKOE_TRACE_MAX), 1536));
+    CHECK(marked(plan_of(trace, NUVASKOE_TRACE_MAX, 1024, 1000, out, NUVASKOE_TRACE_MAX), 1536));
 
     memset(trace, 2, sizeof trace);
     trace[NUVASKOE_TRACE_MAX - 1] = 1;
-    loss = nuvaskoe_effective_loss(trace, NUVASKOE_TRACE_MAX, 1024, 0);
+    loss = loss_of(trace, NUVASKOE_TRACE_MAX, 1024, 0);
     CHECK(loss_is(loss, 1, 64513, 1) && first_is(loss, 64512));
     trace[NUVASKOE_TRACE_MAX - 1] = 4;
-    CHECK(loss_refused(nuvaskoe_effective_loss(trace, NUVASKOE_TRACE_MAX, 1, 0), NUVASKOE_REFUSAL_TRACE_BYTE, 65535));
+    CHECK(loss_refused(loss_of(trace, NUVASKOE_TRACE_MAX, 1, 0), NUVASKOE_REFUSAL_TRACE_BYTE, 65535));
 }
 
 int main(void)

@@ -37,8 +37,8 @@ int main(int count, char **words)
         return 1;
     }
     lost = nuvaskoe_loss_of_trace(trace, sizeof trace, set.gmin, set.spacing, span.source, 2);
-    loss = nuvaskoe_effective_loss(trace, sizeof trace, set.batch, set.threshold);
-    plan = nuvaskoe_resend_plan(trace, sizeof trace, set.batch, set.threshold, marks, sizeof marks);
+    loss = nuvaskoe_effective_loss(trace, sizeof trace, set.batch, set.threshold, NUVASKOE_EVENT_LOST);
+    plan = nuvaskoe_resend_plan(trace, sizeof trace, set.batch, set.threshold, NUVASKOE_EVENT_LOST, marks, sizeof marks);
     if (told("block 17", lost.refusal) || told("effective loss", loss.refusal) || told("plan", plan.refusal)) {
         return 1;
     }
