@@ -12,6 +12,7 @@ import tempfile
 sys.dont_write_bytecode = True  # a run leaves no files in the tree
 sys.path.append(str(pathlib.Path(__file__).resolve().parent.parent))
 import cards
+import counts
 import dials
 import packed
 import packets
@@ -22,11 +23,11 @@ import usage
 from run import Run
 
 # Every function of these that is named so.
-MODULES = (traces, cards, packets, pairs, dials, runs, packed, usage)
+MODULES = (traces, counts, cards, packets, pairs, dials, runs, packed, usage)
 CHECKS = [check for module in MODULES for name, check in vars(module).items() if name.startswith("check_")]
 # The names of JSON that are none of the header's: what was read, lists of answers, and what has no name in C.
-OWN_NAMES = {"file", "form", "list", "cards", "explained", "lost", "discarded", "marked", "offset", "kind", "meaning", "advice",
-             "files", "error", "field", "name", "first_block", "second_block"}
+OWN_NAMES = {"file", "form", "list", "cards", "explained", "count", "lost", "discarded", "either", "marked", "offset", "kind",
+             "meaning", "advice", "files", "error", "field", "name", "first_block", "second_block"}
 
 
 def main():

@@ -3,8 +3,9 @@ import random
 import shutil
 import struct
 
+import document01 as paper
 import document02 as tickets
-from run import CARD, SAMPLES, Run, random_trace, refusal_of, settings
+from run import CARD, COUNTS, SAID, SAMPLES, Run, random_trace, refusal_of, settings, some_count
 from runs import digits
 from traces import SINGLE, as_digits
 
@@ -26,33 +27,38 @@ def some_length(rng):
 
 
 def check_pack(folder):
-    """Traces of both forms, with and without discarded packets and bad characters: the file and what is said of it."""
+    """Traces of both forms, by each choice of what counts or by none, with and without discarded packets and bad characters:
+    the file and what is said of it."""
     rng = random.Random(10)
     path, out, met = folder / "some.trace", folder / "some.packed", set()
-    for round in range(120):
+    for round in range(200):
         trace = bytearray(rng.choice([random_trace(rng), lossy(rng, some_length(rng))]))
         if rng.random() < 0.1:
             trace[rng.randrange(len(trace))] = rng.randrange(3, 10)
         form = rng.choice(["bytes", "digits"])
         trace = bytes(trace) * (round % 30 > 0)
         path.write_bytes(trace if form == "bytes" else as_digits(trace, rng))
-        words, refusal = refusal_of(tickets.packed, trace, 1024)
+        count, chosen = some_count(rng)
+        event = COUNTS[count or "lost"]
+        words, refusal = refusal_of(tickets.packed, event, trace, 1024)
         out.unlink(missing_ok=True)
-        run, got = Run("pack", path, "--form", form, "-o", out), Run("pack", "--json", path, f"--form={form}", "-o", folder / "json").json()
+        run = Run("pack", path, *chosen, "--form", form, "-o", out)
+        got = Run("pack", "--json", *chosen, path, f"--form={form}", "-o", folder / "json").json()
         assert got["refusal"] == (refusal or NOT_REFUSED), (trace, got)
-        met.add(got["refusal"]["number"])
+        met.add((count, got["refusal"]["number"], 2 in trace))
         if refusal:
             run.refused(**refusal)
-            discarded = refusal["number"] == 9 and trace[refusal["place"]] == 2
-            assert (f"; packet {refusal['place']} was discarded\n" in run.told) == discarded and not out.exists(), run.what
+            assert not out.exists(), run.what
             continue
-        packets, count = (f"{n} {word}" + "s" * (n != 1) for n, word in ((len(trace), "packet"), (len(words), "word")))
-        said = f"{path}: {packets}, taken as {form}\n\n  {count}\n  {8 * len(words)} bytes to {out}\n"
+        packets, size = (f"{n} {word}" + "s" * (n != 1) for n, word in ((len(trace), "packet"), (len(words), "word")))
+        said = f"{path}: {packets}, taken as {form}\n{SAID.get(count, '')}\n  {size}\n  {8 * len(words)} bytes to {out}\n"
         assert run.text() == said, (run.out, said)
         assert out.read_bytes() == (folder / "json").read_bytes() == file_of(words), (trace, words)
         assert (got["packets"], got["form"], got["words"], got["size"]) == (len(trace), form, len(words), 8 * len(words)), got
-        assert Run("unpack", out, str(len(trace))).text() == digits(trace), trace
-    assert met == {0, 9, 10}, met
+        assert got.get("count") == count, got
+        assert Run("unpack", out, str(len(trace))).text() == digits(paper.counted(event, trace)), trace
+    assert {number for _, number, _ in met} == {0, 9, 10}, met
+    assert all((count, 0, discards) in met for count in [None, *COUNTS] for discards in (False, True)), met
 
 
 def check_pack_longest(folder):
@@ -61,7 +67,7 @@ def check_pack_longest(folder):
     trace = lossy(random.Random(2), 65535) + b"\1"
     path.write_bytes(trace)
     assert Run("pack", path, "-o", out).text().endswith(f"  1024 words\n  8192 bytes to {out}\n")
-    assert out.read_bytes() == file_of(tickets.packed(trace, 1024))
+    assert out.read_bytes() == file_of(tickets.packed(paper.LOST, trace, 1024))
     assert Run("unpack", out, "65536").text() == digits(trace)
     got = [Run("loss", "--card", CARD, *more, "--json").json() for more in ([path], ["--packed", "65536", out])]
     assert got[0]["over"] == got[1]["over"] and got[1]["batches"] == 65437, got
@@ -81,7 +87,7 @@ def given(path, words, packets):
 def some_packed(rng):
     """A packed trace; in one in three cases with another number of packets, a bit past the end, or words too few or too many."""
     trace = lossy(rng, some_length(rng))
-    words, packets = tickets.packed(trace, 1024), len(trace)
+    words, packets = tickets.packed(paper.LOST, trace, 1024), len(trace)
     fault = rng.randrange(15)
     if fault == 0:
         packets = rng.choice([0, packets + 1, packets + 64, max(0, packets - 1), 65536, 65537, 10 ** 30])

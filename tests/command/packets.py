@@ -118,7 +118,7 @@ def check_report(folder):
             continue
         blocks = [LINES[14].format(source=2, **{name[2:].replace("-", "_"): number for name, number in SPAN.items()}),
                   *(paper.summary_text(event, paper.sums(trace, event, 2, 1000), 2, flag) for event in (1, 2)),
-                  f"eli source 00000002 index {paper.loss(3, 1, trace).split()[5]}"]
+                  f"eli source 00000002 index {paper.loss(paper.LOST, 3, 1, trace).split()[5]}"]
         lines = ["ssrc deadbeef blocks 4", *(f"{k} {block}" for k, block in enumerate(blocks))]
         assert Run("list", packet).text().splitlines() == lines, (trace, lines)
         assert "80 bytes to" in run.text(), run.what

@@ -8,6 +8,9 @@ import document01 as paper
 COMMAND = str(pathlib.Path("target/bin/nuvaskoe").resolve())
 SAMPLES = pathlib.Path("samples").resolve()
 CARD = "01600100000100040096"
+COUNTS = {"lost": paper.LOST, "discarded": paper.DISCARDED, "either": paper.EITHER}  # what --count takes
+# The line that says what was counted, of loss, plan and pack.
+SAID = {"discarded": "counted as lost: discarded packets\n", "either": "counted as lost: lost and discarded packets\n"}
 EXCHANGED = "01600100000010040096"  # two of its digits
 
 
@@ -62,6 +65,12 @@ class Run:
 
 def settings(gmin=16, batch=100, threshold=10, spacing=400):
     return [f"--gmin={gmin}", f"--batch={batch}", f"--threshold={threshold}", f"--spacing={spacing}"]
+
+
+def some_count(rng):
+    """A choice of what counts, or None, and the words that ask for it."""
+    count = rng.choice([None, *COUNTS])
+    return count, [] if count is None else rng.choice([["--count", count], [f"--count={count}"]])
 
 
 def refusal_of(call, *given):

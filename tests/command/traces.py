@@ -4,7 +4,7 @@ import random
 import subprocess
 
 import document01 as paper
-from run import CARD, SAMPLES, Run, random_trace, refusal_of, settings
+from run import CARD, COUNTS, SAMPLES, Run, random_trace, refusal_of, settings, some_count
 
 
 SINGLE = ["--batch", "1", "--threshold", "0"]  # batches of one packet
@@ -39,28 +39,33 @@ def answered(job, words, data, want):
 
 
 def check_traces(_):
-    """figures, loss and plan of random traces in both forms, beside document 01; settings in and out of range."""
+    """figures, loss and plan of random traces in both forms, by each choice of what counts or by none, beside document 01;
+    settings in and out of range."""
     rng = random.Random(6)
-    for _ in range(150):
+    for _ in range(250):
         trace, form, data = some_input(rng)
         gmin, batch = rng.choice([1, 2, 16, 255, 0, 256]), rng.choice([1, 2, 5, 100, 1024, 0, 1025])
         threshold, spacing = rng.choice([0, 1, 3, 10, 1024, 1025]), rng.choice([1, 400, 1000, 40000, 0, 40001])
-        words = [*settings(gmin, batch, threshold, spacing), "--json", "-", *rng.choice([[], ["--form", form]])]
-        want = refusal_of(paper.figures, paper.LOST, gmin, spacing, trace)
+        count, chosen = some_count(rng)
+        event = COUNTS[count or "lost"]
+        words = [*settings(gmin, batch, threshold, spacing), "--json", *chosen, "-", *rng.choice([[], ["--form", form]])]
+        want = refusal_of(paper.figures, event, gmin, spacing, trace)
         if got := answered("figures", words, data, want):
-            discarded = paper.figures(paper.DISCARDED, gmin, spacing, trace)
-            assert [listed(got["lost"]), listed(got["discarded"])] == [want[0], discarded], (words, trace, got)
+            names = [count] if count else ["lost", "discarded"]
+            assert [name for name in got if name in COUNTS] == names and got.get("count") == count, got
+            for name in names:
+                assert listed(got[name]) == paper.figures(COUNTS[name], gmin, spacing, trace), (words, trace, got)
             assert (got["packets"], got["form"], got["settings"]) == (len(trace), form, {"gmin": gmin, "spacing": spacing}), got
-        want = refusal_of(paper.loss, batch, threshold, trace)
+        want = refusal_of(paper.loss, event, batch, threshold, trace)
         if got := answered("loss", words, data, want):
             first = got["first"] if got["found"] else "none"
             shown = f"over {got['over']} of {got['batches']} index {got['index']} first {first}"
             assert shown == want[0], (words, trace, got)
-            assert got["settings"] == {"batch": batch, "threshold": threshold}, got
-        want = refusal_of(paper.plan, batch, threshold, trace, len(trace))
+            assert (got["settings"], got.get("count")) == ({"batch": batch, "threshold": threshold}, count), got
+        want = refusal_of(paper.plan, event, batch, threshold, trace, len(trace))
         if got := answered("plan", words, data, want):
             assert bytes(packet in set(got["marked"]) for packet in range(len(trace))) == want[0], (words, trace, got)
-            assert got["marks"] == sum(want[0]), got
+            assert (got["marks"], got.get("count")) == (sum(want[0]), count), got
 
 
 def check_words(_):

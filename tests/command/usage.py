@@ -191,9 +191,10 @@ def check_pages(folder):
         assert shown.stderr == "" and r"$ printf '\200\317\0\4" in shown.stdout, shown
     for typed, completed in [("fi", "figures"), ("card m", "make"), ("card ''", "read make"), ("plan -", "--card --gmin"),
                              ("card make --s", "--spacing"), ("plan ''", ""), ("list x ''", ""), ("help lo", "loss"), ("zz", ""),
-                             ("figures --form ''", "bytes digits"), ("com", "compare"), ("compare a -", "--json"), ("dials x -", "-o --json"),
+                             ("figures --form ''", "bytes digits"), ("loss --count ''", "lost discarded either"), ("pack x --count e", "either"),
+                             ("figures --c", "--card --count"), ("report --co", ""), ("com", "compare"), ("compare a -", "--json"), ("dials x -", "-o --json"),
                              ("ru", "runs"), ("runs x 1 -", "-o --json"), ("report --r", "--runs"), ("pa", "pack"), ("un", "unpack"),
-                             ("loss --p", "--packed"), ("plan --p", "--packed"), ("pack x -", "--form -o --json"), ("unpack x 9 -", "-o --json")]:
+                             ("loss --p", "--packed"), ("plan --p", "--packed"), ("pack x -", "--count --form -o --json"), ("unpack x 9 -", "-o --json")]:
         line = f"set -eu; source {script}; COMP_WORDS=(nuvaskoe {typed}); COMP_CWORD=$((${{#COMP_WORDS[@]}} - 1)); _nuvaskoe"
         told = subprocess.run(["bash", "-c", f"{line}; echo ${{COMPREPLY[@]-}}"], capture_output=True, text=True, check=True).stdout
         assert told.startswith(completed) and (completed or told == "\n"), (typed, told)
@@ -205,7 +206,7 @@ def check_anything(folder):
     path = folder / "anything"
     packet = shutil.copy(SAMPLES / "week-1.xr", folder)
     some = ["list", "compare", "dials", "runs", "card", "read", "make", "figures", "loss", "plan", "pack", "unpack", "report", "explain",
-            "help", "--json", "--form", "--packed", "--packed=9", "bytes", "digits", "--card", CARD, EXCHANGED, "--gmin", "--batch", "--threshold", "--spacing", "-o", "--", "-", "",
+            "help", "--json", "--form", "--packed", "--packed=9", "--count", "--count=either", "either", "discarded", "bytes", "digits", "--card", CARD, EXCHANGED, "--gmin", "--batch", "--threshold", "--spacing", "-o", "--", "-", "",
             "--flag", "0", "1", "3", "99999", "-h", "--version", "é", b"\xff", "--gmin=2", "--batch=3", "--threshold=1",
             "--spacing=400", "--runs", str(path), packet]
     for _ in range(1500):

@@ -8,6 +8,7 @@
 
 mod answer;
 mod arguments;
+mod count;
 mod drawing;
 mod help;
 mod input;

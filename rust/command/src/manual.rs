@@ -1,9 +1,10 @@
 //! The manual page and the completion of words, from the same texts as help.
 
 use crate::{
+    count::{COUNT, COUNTS},
     help::{form, ANSWERS, EXAMPLE, PURPOSE, REFUSED, STATUS},
     jobs::{Job, JOBS},
-    trace,
+    trace::{self, FORM},
 };
 use nuvaskoe::{block::Reason, RefusalKind};
 
@@ -84,11 +85,15 @@ fn escaped(text: &str) -> String {
     lines.collect()
 }
 
-/// A script for bash that completes jobs, their options and files.
+/// A script for bash that completes jobs, their options, the values of some, and files.
 pub fn completion() -> String {
     let mut first = Vec::from(JOBS.map(Job::first));
     first.dedup();
     let jobs = first.join(" ");
+    let values = [
+        (FORM.name, trace::FORMS.join(" ")),
+        (COUNT.name, COUNTS.map(|count| count.name).join(" ")),
+    ];
     [
         "# Completion of nuvaskoe for bash.\n_nuvaskoe() {\n".into(),
         "    local word=\"${COMP_WORDS[COMP_CWORD]}\" words=\"\"\n".into(),
@@ -98,8 +103,11 @@ pub fn completion() -> String {
         first.iter().map(|first| second(first)).collect(),
         "    esac\n    if [[ $word == -* ]]; then\n        case \"$job\" in\n".into(),
         JOBS.map(options).concat(),
-        "        esac\n    elif [ \"${COMP_WORDS[COMP_CWORD - 1]}\" = --form ]; then\n".into(),
-        "        words=\"bytes digits\"\n    fi\n".into(),
+        "        esac\n    else\n        case \"${COMP_WORDS[COMP_CWORD - 1]}\" in\n".into(),
+        values
+            .map(|(name, values)| format!("        {name}) words=\"{values}\" ;;\n"))
+            .concat(),
+        "        esac\n    fi\n".into(),
         "    COMPREPLY=($(compgen -W \"$words\" -- \"$word\" || true))\n}\n".into(),
         "complete -o default -F _nuvaskoe nuvaskoe\n".into(),
     ]

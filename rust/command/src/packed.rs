@@ -4,9 +4,10 @@
 use crate::{
     answer::{Failure, One},
     arguments::{Arguments, Opt},
+    count::{self, Count},
     input,
     json::Object,
-    settings::Batches,
+    settings::{Batches, Settings},
     trace::{self, Head, Trace, FORM, MOST},
 };
 use nuvaskoe::{
@@ -117,20 +118,25 @@ impl Packed {
     }
 }
 
-/// What a job on batches takes.
+/// What a job on batches takes: a trace and what counts in it, or a packed file, of which the ones count.
 pub enum Batched {
-    Trace(Trace),
+    Trace(Trace, Option<Count>),
     Packed(Packed),
 }
 
 /// The trace or packed file that a job is given.
 pub fn given(arguments: &Arguments) -> Result<Batched, Failure> {
-    let name = arguments.word();
+    let (name, count) = (arguments.word(), count::given(arguments)?);
     let Some(packets) = arguments.number(&PACKED)? else {
-        return trace::read(arguments, name).map(Batched::Trace);
+        let trace = trace::read(arguments, name)?;
+        return Ok(Batched::Trace(trace, count));
     };
     if arguments.text(&FORM).is_some() {
         return Err(arguments.usage("--form and --packed are two forms"));
+    }
+    if count.is_some() {
+        let wrong = "--count and --packed: what counts was chosen when the file was packed";
+        return Err(arguments.usage(wrong));
     }
     let packets = usize::try_from(packets).unwrap_or(usize::MAX);
     read(name, packets).map(Batched::Packed)
@@ -140,8 +146,11 @@ impl Batched {
     pub fn loss(&self, settings: &Batches) -> Result<EffectiveLoss, Failure> {
         let (batch, threshold) = (settings.batch, settings.threshold);
         match self {
-            Batched::Trace(trace) => effective::effective_loss(&trace.packets, batch, threshold)
-                .map_err(|refusal| trace.refused(refusal, settings)),
+            Batched::Trace(trace, count) => {
+                let event = count::event(*count);
+                let loss = effective::effective_loss(&trace.packets, batch, threshold, event);
+                loss.map_err(|refusal| trace.refused(refusal, settings))
+            }
             Batched::Packed(file) => {
                 let loss = packed::effective_loss(&file.words, file.packets, batch, threshold);
                 file.judged(loss, settings)
@@ -153,9 +162,10 @@ impl Batched {
     pub fn plan(&self, settings: &Batches) -> Result<(usize, Vec<u8>), Failure> {
         let (batch, threshold) = (settings.batch, settings.threshold);
         let (marks, plan) = match self {
-            Batched::Trace(trace) => {
-                let mut plan = vec![0; trace.packets.len()];
-                let marks = resend::plan(&trace.packets, batch, threshold, &mut plan);
+            Batched::Trace(trace, count) => {
+                let (packets, event) = (&trace.packets, count::event(*count));
+                let mut plan = vec![0; packets.len()];
+                let marks = resend::plan(packets, batch, threshold, event, &mut plan);
                 let marks = marks.map_err(|refusal| trace.refused(refusal, settings))?;
                 (marks, plan)
             }
@@ -172,10 +182,29 @@ impl Batched {
 
     /// What the library answered under these settings.
     pub fn answer(&self, settings: &Batches, words: &str, numbers: Object) -> One {
-        let head = match self {
-            Batched::Trace(trace) => &trace.head,
-            Batched::Packed(file) => &file.head,
+        let (head, count) = match self {
+            Batched::Trace(trace, count) => (&trace.head, *count),
+            Batched::Packed(file) => (&file.head, None),
         };
-        head.answer(settings, words, numbers)
+        let settings = Counted { settings, count };
+        head.answer(&settings, words, count::numbers(count).and(numbers))
+    }
+}
+
+/// Settings with what counts, which is said below them.
+struct Counted<'a> {
+    settings: &'a Batches,
+    count: Option<Count>,
+}
+
+impl Settings for Counted<'_> {
+    fn numbers(&self) -> Object {
+        self.settings.numbers()
+    }
+}
+
+impl fmt::Display for Counted<'_> {
+    fn fmt(&self, f: &mut fmt::Formatter<'_>) -> fmt::Result {
+        f.write_str(&count::said_below(self.settings, self.count))
     }
 }

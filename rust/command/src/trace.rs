@@ -21,6 +21,9 @@ pub const FORM: Opt = Opt {
     words: "take TRACE as bytes or as digits, whatever it looks like",
 };
 
+/// What that option takes.
+pub const FORMS: [&str; 2] = ["bytes", "digits"];
+
 /// A job on one trace.
 pub const ONE: Takes = Takes {
     least: 1,
@@ -34,8 +37,8 @@ pub const WORDS: &str = "\
 A TRACE is a file with a character for each packet: 0 received, 1 lost, 2
 discarded. They are bytes of these values, or digits with white space anywhere;
 the first tells which, and it is said which was taken. A trace has 1 to 65,536
-packets, which are numbered from 0. One without discarded packets can be packed
-into a bit for each: the job `pack` says how.
+packets, which are numbered from 0. It can be packed into a bit for each: the
+job `pack` says how.
 ";
 
 /// The most packets of a trace. One more is read, enough for the library to refuse it.

@@ -4,6 +4,7 @@ use super::Job;
 use crate::{
     answer::{Answer, Failure},
     arguments::{Arguments, Opt, JSON},
+    count::COUNT,
     json::object,
     output,
     packed::{self, PACKED},
@@ -16,18 +17,20 @@ const OUT: Opt = output::option("the plan, a byte a packet; - is standard output
 
 pub const PLAN: Job = Job {
     name: "plan",
-    usage: "--card CARD [--packed PACKETS] TRACE [-o FILE]",
+    usage: "--card CARD [--count WHAT | --packed PACKETS] TRACE
+    [-o FILE]",
     purpose: "the fewest packets to resend so that every batch can be repaired",
     words: "\
 With the packets of the plan resent, no batch of B packets is left with more
-than T losses, and no plan with fewer packets does that. Only lost packets are
-resent. Packets are numbered from 0, and 4-7 are the packets 4 to 7. The file of
--o has a byte for each packet of the trace: 1 to resend it, 0 otherwise. A file
-of the job `pack` is taken as it is with --packed and the number of its packets;
-the plan has a byte for each packet all the same.
+than T losses, and no plan with fewer packets does that. Only losses are resent:
+lost packets, or with --count discarded ones alone, or either kind. Packets are
+numbered from 0, and 4-7 are the packets 4 to 7. The file of -o has a byte for
+each packet of the trace: 1 to resend it, 0 otherwise. A file of the job `pack`
+is taken as it is with --packed and the number of its packets; what counts was
+chosen when it was packed, and the plan has a byte for each packet all the same.
 ",
     options: &[
-        CARD, GMIN, BATCH, THRESHOLD, SPACING, FORM, PACKED, OUT, JSON,
+        CARD, GMIN, BATCH, THRESHOLD, SPACING, COUNT, FORM, PACKED, OUT, JSON,
     ],
     takes: trace::ONE,
     example: "\
@@ -37,6 +40,13 @@ batch 3 packets, threshold 1 loss
 
   resend 2 packets:
   2 6
+$ echo 011 020 200 | nuvaskoe plan --batch 3 --threshold 1 --count discarded -
+standard input: 9 packets, taken as digits
+batch 3 packets, threshold 1 loss
+counted as lost: discarded packets
+
+  resend 1 packet:
+  6
 ",
     run,
 };

@@ -10,7 +10,9 @@ use crate::{
 };
 use nuvaskoe::{
     block::{Block, Effective, Measurement},
-    effective, figures, packet, Refusal, RefusalKind,
+    effective, figures, packet,
+    trace::Event,
+    Refusal, RefusalKind,
 };
 use std::ffi::OsStr;
 
@@ -74,10 +76,11 @@ pub const REPORT: Job = Job {
     purpose: "a report packet made from a measured trace",
     words: "\
 The packet has four blocks on its source: what was measured (14), bursts and
-gaps of lost packets (17) and of discarded ones (18), and effective loss (240).
-A trace holds no sequence numbers and no clock, so the numbers of block 14 are
-given as the receiver has them: 16 milliseconds are 1048 as an interval and
-68719476 as a fraction. The job `list` then shows the packet.
+gaps of lost packets (17) and of discarded ones (18), and effective loss (240),
+with lost packets as losses. A trace holds no sequence numbers and no clock, so
+the numbers of block 14 are given as the receiver has them: 16 milliseconds are
+1048 as an interval and 68719476 as a fraction. The job `list` then shows the
+packet.
 
 With --runs a block of Loss RLE (1) stands before the last and says of every
 packet whether it was received or lost; its first sequence number is that of
@@ -169,8 +172,8 @@ fn measured(
     let lost = figures::loss_of_trace(packets, gmin, spacing, source, flag).map_err(refused)?;
     let discarded =
         figures::discard_of_trace(packets, gmin, spacing, source, flag).map_err(refused)?;
-    let effective = effective::effective_loss(packets, batch, threshold).map_err(refused)?;
-    let index = effective.index;
+    let effective = effective::effective_loss(packets, batch, threshold, Event::Lost);
+    let index = effective.map_err(refused)?.index;
     Ok([
         Block::Measurement(span),
         Block::Loss(lost),

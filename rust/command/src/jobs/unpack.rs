@@ -16,10 +16,11 @@ pub const UNPACK: Job = Job {
     purpose: "the trace of a packed file",
     words: "\
 FILE was made by the job `pack`, and PACKETS is how many packets it has. The
-trace has a digit for each, 0 received and 1 lost, 60 in a line, as other jobs
-take it. With -o the trace goes to a file, and it is said what it is. FILE has
-to have as many words as so many packets need, and no more. Within the last word
-a wrong number shows only where it leaves a lost packet behind it.
+trace has a digit for each, 1 for a packet that counted when it was packed and 0
+for any other, 60 in a line, as other jobs take it: there a 1 is lost. With -o
+the trace goes to a file, and it is said what it is. FILE has to have as many
+words as so many packets need, and no more. Within the last word a wrong number
+shows only where it leaves a one behind it.
 ",
     options: &[OUT, JSON],
     takes: Takes {
