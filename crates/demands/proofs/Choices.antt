@@ -10,7 +10,7 @@ use lib.Dec.{eqb}
 use lib.ListN.{length}
 use Rattle.refusal.specs.declared.Judged.{Judged}
 use Rattle.trace.specs.declared.Event.{Event}
-use Rattle.trace.specs.declared.Event.the-variants.{Lost, Discarded, Either}
+use Rattle.trace.specs.declared.Event.the-variants.{Lost}
 use Rattle.trace.specs.Trace.{countsAs, countedAt, judged, flagged}
 use Rattle.trace.specs.Laws.{IsTrace}
 use Rattle.trace.proofs.Events.{length-flagged, flag-counted, flagged-counted, flagged-trace}

@@ -5,7 +5,7 @@ use ffi_batch::MarkCount;
 use refusal::Written;
 use trace::EventRead;
 ghost use mathlib.Core.Path.{_≡_};
-ghost use lib.ListN.{length, take};
+ghost use lib.ListN.{take};
 ghost use Rattle.refusal.specs.Answer.{after};
 ghost use Rattle.trace.specs.Events.{eventIn};
 ghost use Rattle.batch.specs.Loss.{lossAnswer};
