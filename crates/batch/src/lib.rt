@@ -1,5 +1,6 @@
 // Effective loss: document 002 and document 01, "Effective loss". Batches are all runs of B consecutive packets;
 // the answer says how many of them hold more than T losses, and which is the first. A loss is what the event counts.
+#![tactic(auto)]
 ghost use Rattle.std.specs.Prelude.{◌≡◌, ℕ, ◌+◌, ◌-◌, ◌<◌, ◌≤◌, min, length};
 ghost use Rattle.trace.specs.Sum.{count};
 ghost use Rattle.trace.specs.Trace.{counted_at, judged, trace_max};
@@ -20,28 +21,28 @@ pub const FULL_LOSS: usize = 65_535;
 const STRIDE: usize = 64;
 
 // The first batch over the threshold, by the index of its first packet.
-#[derive(Drop)]
+#[derive(Clone, Copy)]
 pub enum First {
     At(usize),
     None,
 }
 
 // The running count: a batch, by the index of its first packet, and its losses.
-#[derive(Drop)]
+#[derive(Clone, Copy)]
 pub struct Running {
     pub start: usize,
     pub losses: usize,
 }
 
 // The first batch over the threshold, and its losses where there is one.
-#[derive(Drop)]
+#[derive(Clone, Copy)]
 pub struct Reached {
     pub first: First,
     pub losses: usize,
 }
 
 // K batches of N are over the threshold; the index is K / N as a 16-bit fraction, 65,535 for all.
-#[derive(Drop)]
+#[derive(Clone, Copy)]
 pub struct EffectiveLoss {
     pub over: usize,
     pub batches: usize,
@@ -50,7 +51,7 @@ pub struct EffectiveLoss {
 }
 
 // What effective loss answers, or why not.
-#[derive(Drop)]
+#[derive(Clone, Copy)]
 pub enum LossRead {
     Loss(EffectiveLoss),
     Refused(Refusal),

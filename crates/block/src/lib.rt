@@ -1,5 +1,6 @@
 // The five typed blocks, Loss RLE, and one block read by itself: document 01, "The packet". A reader takes the body of
 // a block, the words after its first, of any size, and answers typed, Loss RLE, unknown, or dropped with its reason.
+#![tactic(auto)]
 ghost use Rattle.std.specs.Prelude.{◌≡◌};
 ghost use Rattle.block.specs.Layouts.{covered};
 ghost use Rattle.block.specs.Reading.{rate_good, rates_good, flag_good, summary_good, summary_read, read_measurement, read_loss, read_discard, read_effective, read_streams, read_rle, read_block, read_bytes, needs_of, measures_of};
@@ -87,7 +88,7 @@ pub const UNAVAILABLE: u16 = 65_535;
 //  +-+-+-+-+-+-+-+-+-+-+-+-+-+-+-+-+-+-+-+-+-+-+-+-+-+-+-+-+-+-+-+-+
 // C: nuvaskoe_measurement
 #[repr(C)]
-#[derive(Drop)]
+#[derive(Clone, Copy)]
 pub struct Measurement {
     pub source: u32,
     pub first: u16, // first sequence number
@@ -115,7 +116,7 @@ pub struct Measurement {
 //  +-+-+-+-+-+-+-+-+-+-+-+-+-+-+-+-+-+-+-+-+-+-+-+-+-+-+-+-+-+-+-+-+
 // C: nuvaskoe_loss_summary
 #[repr(C)]
-#[derive(Drop)]
+#[derive(Clone, Copy)]
 pub struct LossSummary {
     pub flag: u8, // interval flag, 1 to 3
     pub source: u32,
@@ -136,7 +137,7 @@ pub struct LossSummary {
 //  +-+-+-+-+-+-+-+-+-+-+-+-+-+-+-+-+-+-+-+-+-+-+-+-+-+-+-+-+-+-+-+-+
 // C: nuvaskoe_discard_summary
 #[repr(C)]
-#[derive(Drop)]
+#[derive(Clone, Copy)]
 pub struct DiscardSummary {
     pub flag: u8, // interval flag, 1 to 3
     pub source: u32,
@@ -155,7 +156,7 @@ pub struct DiscardSummary {
 //  +-+-+-+-+-+-+-+-+-+-+-+-+-+-+-+-+-+-+-+-+-+-+-+-+-+-+-+-+-+-+-+-+
 // C: nuvaskoe_effective_summary
 #[repr(C)]
-#[derive(Drop)]
+#[derive(Clone, Copy)]
 pub struct EffectiveSummary {
     pub source: u32,
     pub index: u16, // effective loss index; 65,535 is full loss
@@ -175,7 +176,7 @@ pub struct EffectiveSummary {
 //  +-+-+-+-+-+-+-+-+-+-+-+-+-+-+-+-+-+-+-+-+-+-+-+-+-+-+-+-+-+-+-+-+
 // C: nuvaskoe_stream_counts
 #[repr(C)]
-#[derive(Drop)]
+#[derive(Clone, Copy)]
 pub struct StreamCounts {
     pub source: u32,
     pub begin: u16, // first sequence number
@@ -206,7 +207,7 @@ pub struct StreamCounts {
 //  +-+-+-+-+-+-+-+-+-+-+-+-+-+-+-+-+-+-+-+-+-+-+-+-+-+-+-+-+-+-+-+-+
 //  |          chunk n-1            |             chunk n           |
 //  +-+-+-+-+-+-+-+-+-+-+-+-+-+-+-+-+-+-+-+-+-+-+-+-+-+-+-+-+-+-+-+-+
-#[derive(Drop)]
+#[derive(Clone, Copy)]
 pub struct LossRle {
     pub source: u32,
     pub begin: u16, // first sequence number
@@ -214,7 +215,7 @@ pub struct LossRle {
     pub lost: u16, // packets of the interval that are lost
 }
 
-#[derive(Drop)]
+#[derive(Clone, Copy)]
 pub enum Block {
     Measured(Measurement),
     Loss(LossSummary),
@@ -224,7 +225,7 @@ pub enum Block {
 }
 
 // What reading a block answers; a dropped block has its reason.
-#[derive(Drop)]
+#[derive(Clone, Copy)]
 pub enum BlockRead {
     Typed(Block),
     Rle(LossRle),
@@ -233,14 +234,14 @@ pub enum BlockRead {
 }
 
 // What a typed block needs in its packet: nothing, or a measurement block for this source.
-#[derive(Drop)]
+#[derive(Clone, Copy)]
 pub enum Needs {
     Nothing,
     MeasurementOf(u32),
 }
 
 // What a block measures: the source of a well-sized block 14.
-#[derive(Drop)]
+#[derive(Clone, Copy)]
 pub enum Measures {
     Source(u32),
     Nothing,

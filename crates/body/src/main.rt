@@ -1,6 +1,7 @@
 // Writes the body of one block of a report packet as raw bytes, nothing where asking for the block is refused: document 01,
 // "The packet". The block's number, counted from 0, is the one argument; the packet comes from standard input, at most 65,536
 // bytes; more gives only `too long`.
+#![tactic(auto)]
 ghost use Rattle.std.specs.Prelude.{◌≡◌};
 ghost use Rattle.body.specs.Number.{number_of};
 
@@ -13,7 +14,7 @@ const MOST: usize = 65_536;
 const DIGITS: usize = 6;
 
 // What a text says as a decimal number.
-#[derive(Drop)]
+#[derive(Clone, Copy)]
 enum Number {
     Is(usize),
     Nothing,

@@ -2,6 +2,7 @@
 // 02, ticket 3.
 // What the sums are over, groups of events, is in specs/Groups.antt. Any sums may be handed in: those that
 // are not sound are refused, and no product of them wraps.
+#![tactic(auto)]
 ghost use Rattle.std.specs.Prelude.{◌≡◌};
 ghost use Rattle.bursts.specs.Sums.{counts_sound, durations_sound, sums_sound};
 ghost use Rattle.bursts.specs.Figures.{rate_of, ranged, mean_of, variance_of, measure_of};
@@ -12,7 +13,7 @@ use refusal::Refusal;
 // What is summed over the packets so far: E, L, Eb, Lb, n, S and Q of document 01, in its order.
 // C: nuvaskoe_sums
 #[repr(C)]
-#[derive(Drop)]
+#[derive(Clone, Copy)]
 pub struct Sums {
     pub packets: u64, // all packets
     pub events: u64, // those that are counted
@@ -26,7 +27,7 @@ pub struct Sums {
 // The figures as blocks 17 and 18 hold them.
 // C: nuvaskoe_burst_figures
 #[repr(C)]
-#[derive(Drop)]
+#[derive(Clone, Copy)]
 pub struct Figures {
     pub burst_rate: u16, // 0 to 32,768, or 65,535 for unavailable
     pub gap_rate: u16, // 0 to 32,768, or 65,535 for unavailable
@@ -35,7 +36,7 @@ pub struct Figures {
 }
 
 // What sums give: their figures, or why none.
-#[derive(Drop)]
+#[derive(Clone, Copy)]
 pub enum FiguresRead {
     Accepted(Figures),
     Refused(Refusal),

@@ -3,6 +3,7 @@
 //
 //      0     3         8        13        18  20
 //     | Gmin | batch   | threshold | spacing | check |
+#![tactic(auto)]
 ghost use Rattle.std.specs.Prelude.{◌≡◌, ◌++◌, ◌-◌, ◌≤◌, length, take, drop};
 ghost use Rattle.refusal.specs.Answer.{after};
 ghost use Rattle.settings.specs.Ranges.{limits};
@@ -14,7 +15,7 @@ use refusal::{Refusal, Written};
 use settings::Settings;
 
 // What reading a card answers: its settings, or why not.
-#[derive(Drop)]
+#[derive(Clone, Copy)]
 pub enum CardRead {
     Accepted(Settings),
     Refused(Refusal),
@@ -70,7 +71,7 @@ pub fn write(s: Settings, out: &mut [u8]) -> Written
 }
 
 // What the bytes of a part are as a number.
-#[derive(Drop)]
+#[derive(Clone, Copy)]
 enum Parsed {
     Number(u64),
     Other,

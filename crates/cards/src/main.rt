@@ -1,6 +1,7 @@
 // Reads settings cards from standard input, one a line, and writes a line for each: the card that its
 // settings are written as and the four settings, or the refusal. At most 65,536 bytes; more gives only
 // `too long`. A line's end is no part of its card.
+#![tactic(auto)]
 ghost use Rattle.std.specs.Prelude.{◌≤◌, length};
 
 use card::CardRead;

@@ -1,5 +1,6 @@
 // The chunks of a Loss RLE block: RFC 3611, section 4.1. The lost packets are counted by the lengths of runs and the ones of
 // vectors, and no packet looked at by itself.
+#![tactic(auto)]
 ghost use Rattle.std.specs.Prelude.{◌≡◌, ◌+◌, ◌*◌, ◌<◌, ◌≤◌, min, length, take, drop};
 ghost use Rattle.wire.specs.BigEndian.{be16};
 ghost use Rattle.chunk.specs.Chunks.{packets_of, covers, lost_in, chunks_in};
@@ -30,7 +31,7 @@ const MOST_FOURS: usize = 64;
 pub const VECTOR_BITS: usize = 15;
 
 // What counting comes to: so many are lost, or the chunks do not cover the packets.
-#[derive(Drop)]
+#[derive(Clone, Copy)]
 pub enum Counted {
     Lost(usize),
     Uncovered,
@@ -38,7 +39,7 @@ pub enum Counted {
 
 // The next chunks: how many bytes they take, how many of the packets left they report on, how many of these are lost, and how
 // many bytes of vectors stand in a row then. No bytes where the chunk there is null, or none is left.
-#[derive(Drop)]
+#[derive(Clone, Copy)]
 struct Part {
     bytes: usize,
     packets: usize,
@@ -131,7 +132,7 @@ fn one_part(chunk: u16, left: usize, since: usize) -> Part
 
 // Chunks by fours: the bits that all have, and the ones of all together. Nothing leaves this loop early, so that it is
 // compiled to many bytes a step.
-#[derive(Drop)]
+#[derive(Clone, Copy)]
 struct Swept {
     all: u64,
     ones: usize,

@@ -1,6 +1,7 @@
 // How many batches in a row are over the threshold, by the packets that enter and those that leave: packet j of both words is that
 // of the step to batch j + 1 behind a batch that is known. Where the count cannot cross the threshold on the way, all of them are
 // settled in one step.
+#![tactic(auto)]
 ghost use Rattle.std.specs.Prelude.{◌≡◌, cond, ltb};
 ghost use Rattle.packed.specs.Words.{word_bits};
 ghost use Rattle.crossing.specs.Crossing.{over_among};

@@ -1,5 +1,6 @@
 // The front panel's two dials: document 02, ticket 4. A panel setting holds where the burst and the gap needle stand, each a
 // rate as a fraction from 0 to 1; what is no block 17 or 18 that could be written leaves both dark.
+#![tactic(auto)]
 ghost use Rattle.std.specs.Prelude.{◌≡◌};
 ghost use Rattle.frame.specs.Packet.{packet_of};
 ghost use Rattle.packet.specs.Answers.{block_of};
@@ -9,14 +10,14 @@ use block::{Block, BlockRead};
 use packet::BlockAt;
 
 // A needle: lit at its position, or dark.
-#[derive(Drop)]
+#[derive(Clone, Copy)]
 pub enum Needle {
     Lit(f32),
     Dark,
 }
 
 // The panel setting.
-#[derive(Drop)]
+#[derive(Clone, Copy)]
 pub struct Panel {
     pub burst: Needle,
     pub gap: Needle,

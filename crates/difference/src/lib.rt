@@ -1,6 +1,7 @@
 // One difference of two packets in the lent list, and those of two typed blocks of one type, field by field: document 02,
 // ticket 1. A block's fields are read from its own bytes, by their places (specs/Places.antt, the diagrams of crate block).
 // An entry is counted in any case, and written where the list has room for it.
+#![tactic(auto)]
 ghost use Rattle.std.specs.Prelude.{◌≡◌, [], ◌∷◌, ◌≤◌, length};
 ghost use Rattle.block.specs.Types.{measurement_type, loss_type, discard_type, effective_type, streams_type};
 ghost use Rattle.difference.specs.Numbers.{Adds};
@@ -33,7 +34,7 @@ const EFFECTIVE_SIZE: usize = 4 + block::EFFECTIVE_BYTES;
 const STREAMS_SIZE: usize = 4 + block::STREAMS_BYTES;
 
 // One difference: its kind, and the numbers of it that this kind uses; the others are 0.
-#[derive(Drop)]
+#[derive(Clone, Copy)]
 pub struct Difference {
     pub kind: u32,
     pub block: u32, // the block's index

@@ -1,5 +1,6 @@
 // A typed block as bytes: document 01, "Writing". Every kind is a row of 32-bit words, the rows of the diagrams
 // in crate block, so a block is made as words and one loop stores them. Reserved bits are zero.
+#![tactic(auto)]
 ghost use Rattle.std.specs.Prelude.{◌≡◌};
 ghost use Rattle.wire.specs.BigEndian.{placed};
 ghost use Rattle.block.specs.declared.Block.TheVariants.{Measured, Loss, Discard, Effective, Streams};
@@ -8,7 +9,7 @@ ghost use Rattle.encode.specs.Words.{halves, first_word, words_of, filled, bytes
 use block::{Block, DiscardSummary, EffectiveSummary, LossSummary, Measurement, StreamCounts};
 
 // The words of a block: the first `count` of twelve, the most that a listed type has.
-#[derive(Drop)]
+#[derive(Clone, Copy)]
 pub struct BlockWords {
     pub count: usize,
     pub words: [u32; 12],

@@ -1,6 +1,7 @@
 // What the crates of the boundary to C share: no refusal, the answer of a call that fills a lent buffer, and the
 // library's version. An enum cannot be exported, so each answer goes out as a struct of plain numbers, whose value
 // for each case is a definition of specs/Answers.antt. include/nuvaskoe.h is made of the comments and items here.
+#![tactic(auto)]
 ghost use Rattle.std.specs.Prelude.{◌≡◌};
 ghost use Rattle.ffi_answer.specs.Answers.{version, written_out};
 
@@ -23,7 +24,7 @@ pub const NONE: Refusal = Refusal {
 // The answer of a call that fills a lent buffer from its front.
 // C: nuvaskoe_written
 #[repr(C)]
-#[derive(Drop)]
+#[derive(Clone, Copy)]
 pub struct WrittenSize {
     pub refusal: Refusal,
     pub size: usize, // how many bytes or entries at the front are the result; 0 where refused

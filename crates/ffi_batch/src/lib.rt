@@ -1,4 +1,5 @@
 // Effective loss and the resend plan at the boundary to C, with what they count as an event's number.
+#![tactic(auto)]
 ghost use Rattle.std.specs.Prelude.{◌≡◌, length, take};
 ghost use Rattle.trace.specs.declared.Event.{Event};
 ghost use Rattle.trace.specs.declared.EventRead.TheVariants.{Known};
@@ -18,7 +19,7 @@ use trace::EventRead;
 // How many batches of a trace are over the threshold. Where refused, all after refusal is 0.
 // C: nuvaskoe_loss
 #[repr(C)]
-#[derive(Drop)]
+#[derive(Clone, Copy)]
 pub struct LossNumbers {
     pub refusal: Refusal,
     pub over: usize, // batches over the threshold
@@ -31,7 +32,7 @@ pub struct LossNumbers {
 // The answer of making a resend plan.
 // C: nuvaskoe_marks
 #[repr(C)]
-#[derive(Drop)]
+#[derive(Clone, Copy)]
 pub struct MarkCount {
     pub refusal: Refusal,
     pub marks: usize, // how many packets the plan marks; 0 where refused

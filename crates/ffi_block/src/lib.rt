@@ -1,4 +1,5 @@
 // One block at the boundary to C: what reading it came to, its fields as thirteen numbers with an order by type.
+#![tactic(auto)]
 ghost use Rattle.std.specs.Prelude.{◌≡◌};
 ghost use Rattle.block.specs.Reading.{read_block};
 ghost use Rattle.block.specs.declared.Block.TheVariants.{Measured, Streams};
@@ -14,7 +15,7 @@ pub const FIELDS: usize = 13;
 // One block.
 // C: nuvaskoe_block
 #[repr(C)]
-#[derive(Drop)]
+#[derive(Clone, Copy)]
 pub struct BlockFields {
     pub refusal: Refusal,
     pub block_type: u32, // 0 where refused

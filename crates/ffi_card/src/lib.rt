@@ -1,4 +1,5 @@
 // The settings card at the boundary to C.
+#![tactic(auto)]
 ghost use Rattle.std.specs.Prelude.{◌≡◌};
 ghost use Rattle.refusal.specs.Answer.{after};
 ghost use Rattle.settings.specs.Ranges.{limits};
@@ -14,7 +15,7 @@ use settings::Settings;
 // The answer of reading a card.
 // C: nuvaskoe_card
 #[repr(C)]
-#[derive(Drop)]
+#[derive(Clone, Copy)]
 pub struct Card {
     pub refusal: Refusal,
     pub settings: Settings, // all 0 where refused

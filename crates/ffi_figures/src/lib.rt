@@ -1,5 +1,6 @@
 // Burst and gap figures of a trace, and their blocks, at the boundary to C. An event is known by its number; any other
 // number is refusal 15.
+#![tactic(auto)]
 ghost use Rattle.std.specs.Prelude.{◌≡◌};
 ghost use Rattle.trace.specs.Events.{event_in};
 ghost use Rattle.figures.specs.Figures.{loss_block, discard_block};
@@ -14,7 +15,7 @@ use trace::EventRead;
 // The answer of a call that measures.
 // C: nuvaskoe_figured
 #[repr(C)]
-#[derive(Drop)]
+#[derive(Clone, Copy)]
 pub struct Figured {
     pub refusal: Refusal,
     pub figures: Figures, // all unavailable where refused

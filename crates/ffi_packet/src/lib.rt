@@ -1,4 +1,5 @@
 // Report packets read at the boundary to C.
+#![tactic(auto)]
 ghost use Rattle.std.specs.Prelude.{◌≡◌};
 ghost use Rattle.refusal.specs.Answer.{after};
 ghost use Rattle.frame.specs.Packet.{packet_of};
@@ -17,7 +18,7 @@ use refusal::Refusal;
 // What a packet says of itself.
 // C: nuvaskoe_packet
 #[repr(C)]
-#[derive(Drop)]
+#[derive(Clone, Copy)]
 pub struct Packet {
     pub refusal: Refusal,
     pub sender: u32, // 0 where refused
@@ -27,7 +28,7 @@ pub struct Packet {
 // The answer of comparing two packets.
 // C: nuvaskoe_compared
 #[repr(C)]
-#[derive(Drop)]
+#[derive(Clone, Copy)]
 pub struct Comparison {
     pub refusal: Refusal,
     pub differences: usize, // how many there are, of five numbers each; 0 where refused

@@ -1,4 +1,5 @@
 // The front panel at the boundary to C: each needle as two numbers.
+#![tactic(auto)]
 ghost use Rattle.std.specs.Prelude.{◌≡◌};
 ghost use Rattle.block.specs.declared.Block.TheVariants.{Loss, Discard};
 ghost use Rattle.frame.specs.Packet.{packet_of};
@@ -13,7 +14,7 @@ use ffi_block::BlockFields;
 // A needle of the front panel.
 // C: nuvaskoe_needle
 #[repr(C)]
-#[derive(Drop)]
+#[derive(Clone, Copy)]
 pub struct NeedleFields {
     pub lit: u32, // 1 where it is lit, 0 where it is dark
     pub position: f32, // from 0 to 1: the rate divided by NUVASKOE_RATE_MAX, exactly; 0 where it is dark
@@ -22,7 +23,7 @@ pub struct NeedleFields {
 // The setting of the front panel.
 // C: nuvaskoe_panel
 #[repr(C)]
-#[derive(Drop)]
+#[derive(Clone, Copy)]
 pub struct PanelFields {
     pub burst: NeedleFields,
     pub gap: NeedleFields,

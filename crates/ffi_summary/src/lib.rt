@@ -1,5 +1,6 @@
 // The block 17 or 18 of a measurement at the boundary to C: of a trace, or of a tally. A crate of its own, so that the closing
 // of a tally keeps one caller in crate ffi_tally and is compiled into it.
+#![tactic(auto)]
 ghost use Rattle.std.specs.Prelude.{◌≡◌};
 ghost use Rattle.trace.specs.declared.Event.TheVariants.{Lost, Discarded};
 ghost use Rattle.figures.specs.Figures.{figures_in, summary_of};
@@ -16,7 +17,7 @@ use refusal::Refusal;
 // packet is refused with 16.
 // C: nuvaskoe_summary
 #[repr(C)]
-#[derive(Drop)]
+#[derive(Clone, Copy)]
 pub struct SummaryNumbers {
     pub refusal: Refusal,
     pub block_type: u32, // NUVASKOE_BLOCK_LOSS or NUVASKOE_BLOCK_DISCARD: the block that is filled; 0 where refused

@@ -1,4 +1,5 @@
 // The tally at the boundary to C: a struct of plain numbers, its event by number, passed by value and handed back.
+#![tactic(auto)]
 ghost use Rattle.std.specs.Prelude.{◌≡◌};
 ghost use Rattle.trace.specs.Events.{event_in};
 ghost use Rattle.ffi_tally.specs.Answers.{tally_in, tally_out, opened_out, taken_out};
@@ -16,7 +17,7 @@ use trace::EventRead;
 // that was opened and took packets is sound at every point.
 // C: nuvaskoe_tally
 #[repr(C)]
-#[derive(Drop)]
+#[derive(Clone, Copy)]
 pub struct TallyNumbers {
     pub gmin: u32,
     pub spacing: u32,
@@ -26,7 +27,7 @@ pub struct TallyNumbers {
 }
 
 // A tally from its numbers.
-#[derive(Drop)]
+#[derive(Clone, Copy)]
 pub enum TallyRead {
     Known(Tally),
     Unknown,
@@ -35,7 +36,7 @@ pub enum TallyRead {
 // The answer of opening a tally and of giving it a packet.
 // C: nuvaskoe_tallied
 #[repr(C)]
-#[derive(Drop)]
+#[derive(Clone, Copy)]
 pub struct Tallied {
     pub refusal: Refusal,
     pub tally: TallyNumbers, // where refused: all 0 of an opening, else as given

@@ -1,6 +1,7 @@
 // The typed blocks of a listing in text: document 01, "Sheet of examples". Each function puts its text into a page
 // from position at on and answers where it ends. Numbers go by their width to a function of their own: a cast in
 // every line of a block takes half a second of proof each.
+#![tactic(auto)]
 ghost use Rattle.std.specs.Prelude.{◌≡◌};
 ghost use Rattle.block.specs.declared.Block.TheVariants.{Measured, Loss, Discard, Effective, Streams};
 ghost use Rattle.block.specs.Fields.{fields_of};

@@ -1,6 +1,7 @@
 // The figures of a whole trace in one call, and the blocks 17 and 18 that carry figures: document 01, "The trace
 // and its figures"; RFC 7004, sections 3.1 and 3.2. A block that was measured is made from its trace or its tally, so
 // that a 17 has the figures of lost packets and an 18 those of discarded ones, and no block those of either.
+#![tactic(auto)]
 ghost use Rattle.std.specs.Prelude.{◌≡◌};
 ghost use Rattle.trace.specs.declared.Event.TheVariants.{Lost, Discarded};
 ghost use Rattle.tally.specs.Tally.{close_of};
@@ -13,7 +14,7 @@ use tally::{Opened, Tally};
 use trace::Event;
 
 // A block that was measured, of the kind of its event, or why there is none.
-#[derive(Drop)]
+#[derive(Clone, Copy)]
 pub enum Summary {
     Loss(LossSummary),
     Discard(DiscardSummary),

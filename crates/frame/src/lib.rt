@@ -13,6 +13,7 @@
 //  +-+-+-+-+-+-+-+-+-+-+-+-+-+-+-+-+-+-+-+-+-+-+-+-+-+-+-+-+-+-+-+-+
 //  :             type-specific block contents                      :
 //  +-+-+-+-+-+-+-+-+-+-+-+-+-+-+-+-+-+-+-+-+-+-+-+-+-+-+-+-+-+-+-+-+
+#![tactic(auto)]
 ghost use Rattle.std.specs.Prelude.{◌≡◌, ◌+◌, ◌<◌, min, length};
 ghost use Rattle.frame.specs.Frames.{next_at, block_at, start_at, frames_in};
 ghost use Rattle.frame.specs.Packet.{size_fits, header_of, packet_in, walked_of, located_of};
@@ -23,7 +24,7 @@ use refusal::Refusal;
 pub const FIRST_BLOCK: usize = 8;
 
 // What a slice holds: one packet and nothing else, or a packet at its front.
-#[derive(Drop)]
+#[derive(Clone, Copy)]
 pub enum Extent {
     Whole,
     Front,
@@ -31,7 +32,7 @@ pub enum Extent {
 
 // A packet judged as a whole: its sender, the number of its blocks and the place of the one asked for, 0 where there is
 // none.
-#[derive(Drop)]
+#[derive(Clone, Copy)]
 pub enum Located {
     Good(u32, usize, usize),
     Refused(Refusal),
@@ -39,14 +40,14 @@ pub enum Located {
 
 // What a walk finds: the number of blocks and the place of the one asked for, 0 where there is none; or the place of a
 // block that runs past the end.
-#[derive(Drop)]
+#[derive(Clone, Copy)]
 pub enum Walked {
     Blocks(usize, usize),
     Past(usize),
 }
 
 // What the first eight bytes say: who sent the packet and its size in bytes, or why it is refused.
-#[derive(Drop)]
+#[derive(Clone, Copy)]
 pub enum Header {
     Sender(u32, usize),
     Refused(Refusal),

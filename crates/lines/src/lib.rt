@@ -1,6 +1,7 @@
 // The lines of a packet's listing: document 01, "Sheet of examples". Each call puts one line into a page from
 // position at on, its newline too, and answers where it ends. A line is never
 // longer than LINE bytes.
+#![tactic(auto)]
 ghost use Rattle.std.specs.Prelude.{◌≡◌};
 ghost use Rattle.text.specs.Page.{put_at, end_at};
 ghost use Rattle.lines.specs.Lines.{rle_text, block_line, head_line, refusal_line};

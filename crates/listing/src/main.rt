@@ -1,6 +1,7 @@
 // Lists a report packet from standard input: its sender and a line for each block, or the refusal alone.
 // Document 01, "Sheet of examples". At most 65,536 bytes; more gives only `too long`. The packet is surveyed
 // once and walked once, and lines are gathered in a page that goes out in large writes.
+#![tactic(auto)]
 ghost use Rattle.std.specs.Prelude.{◌≡◌, ◌+◌, ◌≤◌, length};
 ghost use Rattle.frame.specs.Frames.{next_at, entry_at};
 ghost use Rattle.packet.specs.Blocks.{read_in};

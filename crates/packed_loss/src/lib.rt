@@ -1,5 +1,6 @@
 // Effective loss of a packed trace: document 02, ticket 6. Batches are those of the byte form, and so is the answer. The running
 // count goes on by 64 batches at a time, and over words without a loss by as many as there are.
+#![tactic(auto)]
 ghost use Rattle.std.specs.Prelude.{◌≡◌, false, ℕ, ◌+◌, ◌-◌, ◌<◌, ◌≤◌, min, length, get_or};
 ghost use Rattle.trace.specs.Sum.{count};
 ghost use Rattle.trace.specs.Trace.{trace_max};
@@ -18,7 +19,7 @@ use refusal::Judged;
 const GROUP: usize = 8;
 
 // How many of the batches up to a later one are over the threshold, and that one's place and losses.
-#[derive(Drop)]
+#[derive(Clone, Copy)]
 struct Stride {
     over: usize,
     start: usize,

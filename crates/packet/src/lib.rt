@@ -1,5 +1,6 @@
 // One report packet read: document 01, "The packet". Every call judges the whole packet first, then answers
 // from its list of blocks.
+#![tactic(auto)]
 ghost use Rattle.std.specs.Prelude.{◌≡◌, ◌+◌};
 ghost use Rattle.block.specs.Reading.{read_bytes, measures_of};
 ghost use Rattle.frame.specs.Packet.{packet_of};
@@ -12,14 +13,14 @@ use frame::{Extent, Located};
 use refusal::Refusal;
 
 // What a packet says of itself: its sender and the number of its blocks, or why it is refused.
-#[derive(Drop)]
+#[derive(Clone, Copy)]
 pub enum PacketHead {
     Sent(u32, usize),
     Refused(Refusal),
 }
 
 // What asking for a block answers: its type and what it is, or why not.
-#[derive(Drop)]
+#[derive(Clone, Copy)]
 pub enum BlockAt {
     Found(u8, BlockRead),
     Refused(Refusal),
@@ -28,7 +29,7 @@ pub enum BlockAt {
 // Where a part of a packet lies.
 // C: nuvaskoe_part
 #[repr(C)]
-#[derive(Drop)]
+#[derive(Clone, Copy)]
 pub struct Part {
     pub start: usize, // the offset of its first byte
     pub length: usize,

@@ -1,20 +1,21 @@
 // The one vocabulary of refusals: document 01, "When the set says no". A call that says no answers a
 // Refusal, and names it by this table; no other crate writes a refusal's number. specs/Table.antt is the
 // same table for the promises.
+#![tactic(auto)]
 ghost use Rattle.std.specs.Prelude.{◌≡◌};
 ghost use Rattle.refusal.specs.Table.{block_past_end, trace_byte};
 
 // Why a call said no: a row of the table of refusals by its number, and the place.
 // C: nuvaskoe_refusal
 #[repr(C)]
-#[derive(Drop)]
+#[derive(Clone, Copy)]
 pub struct Refusal {
     pub number: u32, // from 1; at the boundary to C 0 is no refusal, and the rest of the answer then holds
     pub place: usize, // 6: the block's offset; 9: the byte's index in a trace, the bit's in a packed one; 0 elsewhere
 }
 
 // What judging an input comes to: it is accepted, or why not.
-#[derive(Drop)]
+#[derive(Clone, Copy)]
 pub enum Judged {
     Accepted,
     Refused(Refusal),
@@ -22,7 +23,7 @@ pub enum Judged {
 
 // What a call that fills a lent buffer from its front answers: how many bytes, or entries, are the
 // result, or why not.
-#[derive(Drop)]
+#[derive(Clone, Copy)]
 pub enum Written {
     Size(usize),
     Refused(Refusal),

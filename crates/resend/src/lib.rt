@@ -1,5 +1,6 @@
 // The resend plan: demand 3 and document 01, "The plan". One byte for each packet of a trace, 1 to resend and 0
 // otherwise, so that no batch is left with more than T losses: as few marks as can be, each as late as can be.
+#![tactic(auto)]
 ghost use Rattle.std.specs.Prelude.{◌≡◌, ◌++◌, ◌-◌, ◌<◌, ◌≤◌, min, length, get_or, drop};
 ghost use Rattle.trace.specs.Sum.{bit};
 ghost use Rattle.trace.specs.Trace.{counted_at, judged};
@@ -13,7 +14,7 @@ use refusal::{Judged, Refusal};
 use trace::{Event, counts};
 
 // What planning answers: the number of marks, or why not.
-#[derive(Drop)]
+#[derive(Clone, Copy)]
 pub enum Planned {
     Marks(usize),
     Refused(Refusal),

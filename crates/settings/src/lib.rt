@@ -1,13 +1,14 @@
 // The settings and their ranges: document 01, "The trace and its figures", first paragraph. A call checks
 // only the settings that it takes, so the ranges are tested in pairs: Gmin and spacing for burst figures,
 // batch and threshold for effective loss and the plan, all four for a card.
+#![tactic(auto)]
 ghost use Rattle.std.specs.Prelude.{◌≡◌};
 ghost use Rattle.settings.specs.Ranges.{limits, within, burst_in_range, batch_in_range, in_range};
 
 // The four settings of a card, and the range of each.
 // C: nuvaskoe_settings
 #[repr(C)]
-#[derive(Drop)]
+#[derive(Clone, Copy)]
 pub struct Settings {
     pub gmin: u32, // 1 to 255 packets
     pub batch: u32, // 1 to 1,024 packets

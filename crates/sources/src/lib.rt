@@ -1,5 +1,6 @@
 // The measured sources of two packets, as two sorted tables, with both packets judged on the way. A walk waits on each
 // block's length before it knows the next place; the two packets are walked side by side, so that the two waits are one.
+#![tactic(auto)]
 ghost use Rattle.std.specs.Prelude.{◌≡◌, ◌≤◌, length};
 ghost use Rattle.frame.specs.Frames.{first_block};
 ghost use Rattle.frame.specs.Packet.{packet_of};
@@ -10,14 +11,14 @@ use frame::{Extent, Header, Located};
 use refusal::Refusal;
 
 // How many sources stand in each table, or why one of the packets is refused.
-#[derive(Drop)]
+#[derive(Clone, Copy)]
 pub enum Gathered {
     Sources(usize, usize),
     Refused(Refusal),
 }
 
 // How far the walk over both packets came: the next block of each, and how many sources stand in each table.
-#[derive(Drop)]
+#[derive(Clone, Copy)]
 struct Passed {
     first_at: usize,
     second_at: usize,
@@ -27,7 +28,7 @@ struct Passed {
 
 // What the walk to a packet's end finds: how many sources stand in its table, or the place of a block that runs past
 // the end.
-#[derive(Drop)]
+#[derive(Clone, Copy)]
 enum Ended {
     Sources(usize),
     Past(usize),

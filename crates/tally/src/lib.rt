@@ -1,6 +1,7 @@
 // The tally of bursts: document 01, "The trace and its figures". A tally is opened with Gmin, the spacing and
 // the event that it counts, takes packets one after the other, by value, and closes with the figures. Any
 // tally may be handed in: one that is not sound is refused, and no sum or product of it wraps.
+#![tactic(auto)]
 ghost use Rattle.std.specs.Prelude.{◌≡◌};
 ghost use Rattle.tally.specs.Tally.{fresh, open_of, counted_in, open_within, sound, step_of, take_one, refused_with, close_of, of_trace};
 ghost use Rattle.tally.specs.Steps.{Room, Bounded, sums_within, bounded};
@@ -12,7 +13,7 @@ use trace::Event;
 // The last group of events, which the next event may join; its burst is not yet in the sums.
 // C: nuvaskoe_stretch
 #[repr(C)]
-#[derive(Drop)]
+#[derive(Clone, Copy)]
 pub struct Stretch {
     pub events: u64, // 0 where there was no event so far
     pub packets: u64, // from its first event to its last; 0 where there was none
@@ -20,7 +21,7 @@ pub struct Stretch {
 }
 
 // What was counted so far. The open stretch is not yet in the sums of bursts.
-#[derive(Drop)]
+#[derive(Clone, Copy)]
 pub struct Tally {
     pub gmin: u32,
     pub spacing: u32,
@@ -30,21 +31,21 @@ pub struct Tally {
 }
 
 // What opening answers: a tally, or why none.
-#[derive(Drop)]
+#[derive(Clone, Copy)]
 pub enum Opened {
     Accepted(Tally),
     Refused(Refusal),
 }
 
 // Whether a packet was counted in, or why not.
-#[derive(Drop)]
+#[derive(Clone, Copy)]
 pub enum Answer {
     Accepted,
     Refused(Refusal),
 }
 
 // The next tally with the answer; the tally as given, where the packet is refused.
-#[derive(Drop)]
+#[derive(Clone, Copy)]
 pub struct Taken {
     pub tally: Tally,
     pub answer: Answer,

@@ -1,5 +1,6 @@
 // A trace and what is counted in it: document 01, "The trace and its figures". One byte a packet; a trace is
 // accepted or refused as a whole, and a call counts one kind of event in it.
+#![tactic(auto)]
 ghost use Rattle.std.specs.Prelude.{◌≡◌, ltb, length};
 ghost use Rattle.trace.specs.Events.{event_in, event_number};
 ghost use Rattle.trace.specs.Sum.{bit};
@@ -23,7 +24,7 @@ pub const TRACE_MIN: usize = 1;
 pub const TRACE_MAX: usize = 65_536;
 
 // What a call counts, by the caller's choice: document 02, ticket 7. All other packets are to it as received.
-#[derive(Drop)]
+#[derive(Clone, Copy)]
 pub enum Event {
     Lost,
     Discarded,
@@ -31,7 +32,7 @@ pub enum Event {
 }
 
 // An event by its number.
-#[derive(Drop)]
+#[derive(Clone, Copy)]
 pub enum EventRead {
     Known(Event),
     Unknown,

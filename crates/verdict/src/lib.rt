@@ -1,5 +1,6 @@
 // A block's verdict as a number: from its own bytes, and, where it waits for a measurement, from a table of the measured
 // sources.
+#![tactic(auto)]
 ghost use Rattle.std.specs.Prelude.{◌≡◌, cond, [], leb, ◌<◌, ◌≤◌, length};
 ghost use Rattle.sorting.specs.Order.{Sorted};
 ghost use Rattle.block.specs.Reading.{read_rle, read_bytes, measures_of};
@@ -123,7 +124,7 @@ pub fn has(table: &[u32], x: u32) -> bool
 }
 
 // Where a search goes on: among so many numbers of the table, from low on.
-#[derive(Drop)]
+#[derive(Clone, Copy)]
 struct Part {
     low: usize,
     size: usize,

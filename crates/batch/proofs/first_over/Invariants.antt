@@ -1,0 +1,20 @@
+-- `batch::first_over` meets its contract. The invariant of both loops is `Under`, from the first batch on. Assumes nothing.
+use Prim.Native.Nat.{◌-◌, ◌≤◌}
+use mathlib.Core.Path.{◌≡◌}
+use lib.ListN.{length}
+use Rattle.trace.specs.Trace.{counted_at}
+use Rattle.batch.specs.declared.First.TheVariants.{None}
+use Rattle.batch.proofs.Loops.{Under}
+use Rattle.batch.proofs.first_over.Given as goal
+
+abbrev pub invariant-loop-start : goal.invariant-loop-start
+invariant-loop-start l = Under (counted_at l.event l.s) (length l.s) l.batch l.threshold 0 l.losses l.start × (l.first ≡ None) × (l.start ≤ l.end)
+
+abbrev pub decreases-loop-start : goal.decreases-loop-start
+decreases-loop-start l = l.end - l.start
+
+abbrev pub invariant-batches : goal.invariant-batches
+invariant-batches l = Under (counted_at l.event l.s) (length l.s) l.batch l.threshold 0 l.losses l.start × (l.first ≡ None)
+
+abbrev pub decreases-batches : goal.decreases-batches
+decreases-batches l = l.last - l.start

@@ -1,0 +1,12 @@
+-- `batch::pass_under` meets its contract. The loop's invariant is `Under`. Assumes nothing.
+use Prim.Native.Nat.{◌-◌, ◌≤◌}
+use lib.ListN.{length}
+use Rattle.trace.specs.Trace.{counted_at}
+use Rattle.batch.proofs.Loops.{Under}
+use Rattle.batch.proofs.pass_under.Given as goal
+
+abbrev pub invariant-loop-start : goal.invariant-loop-start
+invariant-loop-start l = Under (counted_at l.event l.s) (length l.s) l.batch l.threshold l.initial.start l.losses l.start × (l.initial.start ≤ l.start)
+
+abbrev pub decreases-loop-start : goal.decreases-loop-start
+decreases-loop-start l = l.last - l.start
