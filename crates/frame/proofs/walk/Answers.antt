@@ -1,0 +1,27 @@
+-- `frame::walk` meets its contract. The loop's invariant is `Walk`. Assumes nothing.
+use Prim.Native.Nat.{◌-◌}
+use mathlib.Core.Logic.{inl, inr, ⊎_elim}
+use native.Mathlib.Omega.{arith}
+use Rattle.frame.proofs.Walking.{walk_start, walk_past, walk_on, walk_end}
+use Rattle.frame.proofs.walk.Goals.{then-count-index, else-count-index}
+use Rattle.frame.proofs.walk.Goals as goal
+
+pub loop-at-init : goal.loop-at-init
+loop-at-init c = walk_start _ _ _ _
+
+pub returns-then-end-next : goal.returns-then-end-next
+returns-then-end-next c = rw (← c.nearer-end.ensures) (walk_past _ _ _ _ _ _ _ c.loop-at.invariant (omega arith) (omega (arith, c.next_block-next.ensures)))
+
+pub overflow_add-count : goal.overflow_add-count
+overflow_add-count c = omega (arith, c.loop-at.invariant.low)
+
+pub loop-at-smaller : goal.loop-at-smaller
+loop-at-smaller c = omega (arith, c.next_block-next.ensures)
+
+pub loop-at-preserved : goal.loop-at-preserved
+loop-at-preserved c =
+    walk_on _ _ _ _ _ _ _ c.loop-at.invariant _ _ (omega arith) c.next_block-next.ensures (omega arith)
+    (elim c.if-count-index.branch [ then-count-index w ↦ inl (w.if-count-index.true, w.found-is) | else-count-index w ↦ inr (w.if-count-index.false, w.found-is) ])
+
+pub returns : goal.returns
+returns c = rw (← c.nearer-end.ensures) (walk_end _ _ _ _ _ _ _ c.loop-at.invariant (omega arith))
