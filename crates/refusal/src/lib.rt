@@ -2,6 +2,7 @@
 // Refusal, and names it by this table; no other crate writes a refusal's number. specs/Table.antt is the
 // same table for the promises.
 #![tactic(auto)]
+
 ghost use Rattle.std.specs.Prelude.{◌≡◌};
 ghost use Rattle.refusal.specs.Table.{block_past_end, trace_byte};
 

@@ -2,6 +2,7 @@
 // only the settings that it takes, so the ranges are tested in pairs: Gmin and spacing for burst figures,
 // batch and threshold for effective loss and the plan, all four for a card.
 #![tactic(auto)]
+
 ghost use Rattle.std.specs.Prelude.{◌≡◌};
 ghost use Rattle.settings.specs.Ranges.{limits, within, burst_in_range, batch_in_range, in_range};
 
