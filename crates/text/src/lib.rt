@@ -2,6 +2,7 @@
 // from position at on and answers where it ends. What does not fit is cut off at the page's end, so any
 // position and any text may be given; calls one after the other put what one call with the joined text puts.
 #![tactic(auto)]
+
 ghost use Rattle.std.specs.Prelude.{◌≡◌};
 ghost use Rattle.text.specs.Text.{decimal_of, hex_of};
 ghost use Rattle.text.specs.Page.{put_at, end_at};
