@@ -1,14 +1,17 @@
 // Writes the body of one block of a report packet as raw bytes, nothing where asking for the block is refused: document 01,
 // "The packet". The block's number, counted from 0, is the one argument; the packet comes from standard input, at most 65,536
-// bytes; more gives only `too long`.
+// bytes; more gives only `too long`. A read or a write that fails ends the program with its error.
 #![tactic(auto)]
+
 ghost use Rattle.std.specs.Prelude.{◌≡◌};
 ghost use Rattle.body.specs.Number.{number_of};
 
-use libc::STDOUT_FILENO;
+use std::env::{Env, FillError};
+use std::io;
+use std::io::Read;
 
 // The longest packet, in bytes; the buffer has room for one more.
-const MOST: usize = 65_536;
+const MOST: u64 = 65_536;
 
 // The most digits of a block's number: more than the blocks of a packet need.
 const DIGITS: usize = 6;
@@ -20,32 +23,41 @@ enum Number {
     Nothing,
 }
 
-// An argument of more than DIGITS bytes leaves none here, and so is no number.
-fn main() {
-    if os::arg_count() != 2 {
-        usage();
-        return;
+// An argument of more than DIGITS bytes is no number.
+fn main(rt: HostRuntime) -> io::Result<()> {
+    if has_argument(&rt, 2) {
+        return usage(&rt);
     }
     let mut digits = [0u8; DIGITS];
-    let n = os::arg(1, &mut digits);
-    match number_in(&digits[..n]) {
-        Number::Is(index) => show(index),
-        Number::Nothing => usage(),
+    match rt.arg(1, &mut digits) {
+        Ok(n) => show_block(&rt, number_in(&digits[..n])),
+        Err(_) => usage(&rt),
     }
 }
 
-fn usage() {
-    io::write_all(STDOUT_FILENO, b"usage: body NUMBER < PACKET\n");
+// Whether there is an argument i; 0 is the program's own name.
+fn has_argument(env: &impl Env, i: usize) -> bool {
+    !matches!(env.arg(i, &mut [0u8; 1]), Err(FillError::NotPresent))
 }
 
-fn show(index: usize) {
+fn usage(rt: &impl Print) -> io::Result<()> {
+    rt.write_all(b"usage: body NUMBER < PACKET\n")
+}
+
+fn show_block(rt: &(impl Input + Print), number: Number) -> io::Result<()> {
+    match number {
+        Number::Is(index) => show(rt, index),
+        Number::Nothing => usage(rt),
+    }
+}
+
+fn show(rt: &(impl Input + Print), index: usize) -> io::Result<()> {
     let mut buffer = [0u8; 65_537];
-    let n = io::read_full(0, &mut buffer);
+    let n = io::copy(&mut rt.reader().take(MOST + 1), &mut &mut buffer[..])?;
     if MOST < n {
-        io::write_all(STDOUT_FILENO, b"too long\n");
-        return;
+        return rt.write_all(b"too long\n");
     }
-    io::write_all(STDOUT_FILENO, packet::body(&buffer[..n], index));
+    rt.write_all(packet::body(&buffer[..n as usize], index))
 }
 
 // The number of a text of one to six decimal digits; any other text has none.

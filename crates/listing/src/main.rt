@@ -1,8 +1,10 @@
 // Lists a report packet from standard input: its sender and a line for each block, or the refusal alone.
 // Document 01, "Sheet of examples". At most 65,536 bytes; more gives only `too long`. The packet is surveyed
-// once and walked once, and lines are gathered in a page that goes out in large writes.
+// once and walked once, and lines are gathered in a page that goes out in large writes. A read or a write
+// that fails ends the program with its error.
 #![tactic(auto)]
-ghost use Rattle.std.specs.Prelude.{◌≡◌, ◌+◌, ◌≤◌, length};
+
+ghost use Rattle.std.specs.Prelude.{◌≡◌, ◌+◌, ◌≤◌, IfOk, length};
 ghost use Rattle.frame.specs.Frames.{next_at, entry_at};
 ghost use Rattle.packet.specs.Blocks.{read_in};
 ghost use Rattle.packet.specs.Steps.{blocks_of};
@@ -11,56 +13,62 @@ ghost use Rattle.lines.specs.Lines.{line_room};
 ghost use Rattle.listing.specs.Room.{Listed, judged_by, line_at, Added};
 
 use block::BlockRead;
-use libc::STDOUT_FILENO;
 use refusal::Written;
+use std::io;
+use std::io::Read;
 
 // The longest input, in bytes; the buffer has room for one more.
-const MOST: usize = 65_536;
+const MOST: u64 = 65_536;
 
-fn main() {
+fn main(rt: HostRuntime) -> io::Result<()> {
     let mut buffer = [0u8; 65_537];
-    let n = io::read_full(0, &mut buffer);
+    let n = io::copy(&mut rt.reader().take(MOST + 1), &mut &mut buffer[..])?;
     if MOST < n {
-        io::write_all(STDOUT_FILENO, b"too long\n");
-        return;
+        return rt.write_all(b"too long\n");
     }
-    list(&buffer[..n]);
+    list(&rt, &buffer[..n as usize])
 }
 
 // A packet of MOST bytes has at most 16,382 blocks, two numbers each in the table.
-fn list(packet: &[u8]) {
+fn list(rt: &impl Print, packet: &[u8]) -> io::Result<()> {
     let mut table = [0u32; 32_768];
     let mut page = [0u8; 65_536];
-    report(packet, &mut table, &mut page);
+    report(rt, packet, &mut table, &mut page)
 }
 
-fn report(packet: &[u8], table: &mut [u32], page: &mut [u8])
+fn report(rt: &impl Print, packet: &[u8], table: &mut [u32], page: &mut [u8]) -> io::Result<()>
     requires { line_room ≤ length page.old }
 {
     match survey::list(packet, table) {
-        Written::Size(size) => list_blocks(packet, table, size / 2, page),
+        Written::Size(size) => list_blocks(rt, packet, table, size / 2, page),
         Written::Refused(r) => {
             let end = lines::put_refusal(page, 0, r);
-            send(page, end);
+            send(rt, page, end)
         }
     }
 }
 
 // The first line, then each block's in one walk, its verdict from the survey.
-fn list_blocks(s: &[u8], table: &[u32], count: usize, page: &mut [u8])
+fn list_blocks(
+    rt: &impl Print,
+    s: &[u8],
+    table: &[u32],
+    count: usize,
+    page: &mut [u8],
+) -> io::Result<()>
     requires { Listed s.now table.now × (line_room ≤ length page.old) }
 {
     let mut end = lines::put_head(page, 0, wire::u32_at(s, 4), count);
     let mut at = frame::FIRST_BLOCK;
     let mut k = 0;
     while at < s.len() {
-        end = make_room(page, end);
+        end = make_room(rt, page, end)?;
         end = put_line(s, at, k, table[2 * k + 1], page, end);
         let bytes = frame::block_at(s, at);
         at += bytes.len();
         k += 1;
     }
-    send(page, end);
+    send(rt, page, end)
 }
 
 // The line of block number k, which stands at offset at.
@@ -84,19 +92,19 @@ fn judged(own: BlockRead, verdict: u32) -> BlockRead
 }
 
 // Where the next line goes: the page is sent first if it has no room for a line.
-fn make_room(page: &[u8], end: usize) -> usize
+fn make_room(rt: &impl Print, page: &[u8], end: usize) -> io::Result<usize>
     requires { (end ≤ length page.now) × (line_room ≤ length page.now) }
-    ensures { result + line_room ≤ length page.now }
+    ensures { IfOk result (λ at. at + line_room ≤ length page.now) }
 {
     if page.len() - end < lines::LINE {
-        send(page, end);
-        return 0;
+        send(rt, page, end)?;
+        return Ok(0);
     }
-    end
+    Ok(end)
 }
 
-fn send(page: &[u8], end: usize)
+fn send(rt: &impl Print, page: &[u8], end: usize) -> io::Result<()>
     requires { end ≤ length page.now }
 {
-    io::write_all(STDOUT_FILENO, &page[..end]);
+    rt.write_all(&page[..end])
 }
