@@ -2,6 +2,7 @@
 // from position at on and answers where it ends. Numbers go by their width to a function of their own: a cast in
 // every line of a block takes half a second of proof each.
 #![tactic(auto)]
+
 ghost use Rattle.std.specs.Prelude.{◌≡◌};
 ghost use Rattle.block.specs.declared.Block.TheVariants.{Measured, Loss, Discard, Effective, Streams};
 ghost use Rattle.block.specs.Fields.{fields_of};

@@ -1,7 +1,8 @@
 // The lines of a packet's listing: document 01, "Sheet of examples". Each call puts one line into a page from
 // position at on, its newline too, and answers where it ends. A line is never
 // longer than LINE bytes.
-#![tactic(auto)]
+#![tactic(auto, using(text::proofs::Joined::end_joined, text::proofs::Joined::put_joined), unfolding(crate::specs::Lines::rle_text))]
+
 ghost use Rattle.std.specs.Prelude.{◌≡◌};
 ghost use Rattle.text.specs.Page.{put_at, end_at};
 ghost use Rattle.lines.specs.Lines.{rle_text, block_line, head_line, refusal_line};
