@@ -35,3 +35,6 @@ grows n d i h small = rw (add-one i) (omega (arith, pow-suc 10 i))
 
 pub bounded : (n i : ℕ) → n < 10 ^ i → i ≤ 6 → n < 1000000
 bounded n i h few = omega (arith, pow-le-pow_right {n = 10} (omega arith) {i = i} {j = 6} few)
+
+-- what the check looks at for `body::number_in`
+pub ruleset by_digits = (goes_on, too_low, too_high, ends, grows, bounded)

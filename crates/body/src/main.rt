@@ -61,6 +61,7 @@ fn show(rt: &(impl Input + Print), index: usize) -> io::Result<()> {
 }
 
 // The number of a text of one to six decimal digits; any other text has none.
+#[tactic(auto, using(crate::proofs::Digits::by_digits), unfolding(crate::specs::Number::number_of))]
 fn number_in(text: &[u8]) -> Number
     ensures { result ≡ number_of text.now }
 {

@@ -1,6 +1,6 @@
 // A label with a number, a source or a figure behind it, put into a page: what the lines of a listing are made of.
 // Document 01, "Sheet of examples". Each call puts its text from position at on and answers where it ends.
-#![tactic(auto, using(text::proofs::Joined::end_joined, text::proofs::Joined::put_joined), unfolding(crate::specs::Labels::number, crate::specs::Labels::source, crate::specs::Labels::figure))]
+#![tactic(auto, using(text::proofs::Joined::joining), unfolding(crate::specs::Labels::number, crate::specs::Labels::source, crate::specs::Labels::figure))]
 
 ghost use Rattle.std.specs.Prelude.{◌≡◌};
 ghost use Rattle.text.specs.Page.{put_at, end_at};

@@ -1,7 +1,7 @@
 // The lines of a packet's listing: document 01, "Sheet of examples". Each call puts one line into a page from
 // position at on, its newline too, and answers where it ends. A line is never
 // longer than LINE bytes.
-#![tactic(auto, using(text::proofs::Joined::end_joined, text::proofs::Joined::put_joined), unfolding(crate::specs::Lines::rle_text))]
+#![tactic(auto, using(text::proofs::Joined::joining), unfolding(crate::specs::Lines::rle_text))]
 
 ghost use Rattle.std.specs.Prelude.{◌≡◌};
 ghost use Rattle.text.specs.Page.{put_at, end_at};

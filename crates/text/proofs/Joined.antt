@@ -75,6 +75,9 @@ module _ (page : List ℕ) (at : ℕ) (a b : List ℕ) where
           let stays = end_past page at a (omega arith) in
           rw (← same, ← stays) (sym (put_past page at b (omega arith)) ∙ put_past page at (a ++ b) (omega arith))
 
+-- the two, for the attribute of a crate that puts one text after another
+pub ruleset joining = (end_joined, put_joined)
+
 pub joined : Joined
 joined page after last at end stop a b first second =
     (second.0 ∙ rw (first.0, first.1) (end_joined page at a b), second.1 ∙ rw (first.0, first.1) (put_joined page at a b))
