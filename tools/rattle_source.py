@@ -16,8 +16,13 @@ class Struct:
 
 
 class Call:
-    def __init__(self, name, text, params, answer):
-        self.name, self.text, self.params, self.answer = name, text, params, answer  # params: (name, type)
+    def __init__(self, crate, name, text, params, answer, promise):
+        self.crate, self.name, self.text = crate, name, text
+        self.params, self.answer = params, answer  # params: (name, type)
+        self.promise = promise  # its signature and clauses as they are written
+
+    def kinds(self):
+        return [kind for _, kind in self.params] + [self.answer]
 
 
 class Source:
@@ -56,8 +61,10 @@ class Source:
         return eval(re.sub(r"(\w+)::([A-Z]\w*)", value, expression), {"__builtins__": {}}), kind
 
     def _structs(self, crate):
-        pattern = r"((?:// [^\n]*\n|//\n)+)#\[repr\(C\)\]\npub struct (\w+) \{\n(.*?)\n\}"
-        for comment, name, body in re.findall(pattern, self.files[crate], re.S):
+        pattern = r"((?:// [^\n]*\n|//\n)+)((?:#\[[^\n]*\]\n)+)pub struct (\w+) \{\n(.*?)\n\}"
+        for comment, attributes, name, body in re.findall(pattern, self.files[crate], re.S):
+            if "#[repr(C)]\n" not in attributes:
+                continue
             tag = re.search(r"^// C: (\w+)$", comment, re.M)
             if not tag:
                 raise SystemExit(f"{crate}::{name} is repr(C) and has no line `// C: NAME`")
@@ -68,17 +75,17 @@ class Source:
             yield Struct(name, tag[1], _text(comment), [(f, lengths(kind), note) for f, kind, note in fields])
 
     def _calls(self, crate):
-        pattern = r"((?:// .*\n)+)#\[no_mangle\]\npub extern \"C\" fn (\w+)\(([^)]*)\)\s*->\s*(\w+)"
+        pattern = r"((?:// .*\n)+)#\[unsafe\(no_mangle\)\]\n(pub extern \"C\" fn (\w+)\(([^)]*)\)\s*->\s*(\w+)(?:\n .*)+)\n\{\n"
         found = re.findall(pattern, self.files[crate])
         if len(found) != self.files[crate].count("no_mangle"):
             raise SystemExit(f"{crate}: an exported call has no comment, or another form than is read here")
-        for comment, name, params, answer in found:
+        for comment, promise, name, params, answer in found:
             split = [p.strip().split(": ", 1) for p in params.split(",") if p.strip()]
-            yield Call(name, _text(comment), [tuple(p) for p in split], answer)
+            yield Call(crate, name, _text(comment), [tuple(p) for p in split], answer, promise)
 
     def _refusals(self):
         """(NAME, number) in the table's order."""
-        item = r"^pub (?:const|fn) (\w+)[^{]*(?:\{ λ[^}]*\}\s*\{\s*Refusal )?\{\s*number: (\d+)"
+        item = r"^pub (?:const|fn) (\w+)[^{]*(?:\{ result[^}]*\}\s*\{\s*Refusal )?\{\s*number: (\d+)"
         rows = [(name.upper(), int(n)) for name, n in re.findall(item, self.files["refusal"], re.M)]
         if [n for _, n in rows] != list(range(1, len(rows) + 1)):
             raise SystemExit("crates/refusal: the numbers are not 1, 2, 3 and on")
@@ -103,9 +110,9 @@ def _places(fields, answers):
     """For each kind of block the names of its places at the boundary, from the definitions that the calls promise: its
     fields in layout order, and where the packets covered are put among them, after the first few. Loss RLE has a definition
     of its own, with the packets covered in their place."""
-    kinds = re.findall(r"^fieldsOf \((\w+) \w+\) =\s*(.*?)\[\]$", fields, re.S | re.M)
-    names = {kind: re.findall(r"\.«?(\w+)»? ∷", items) for kind, items in kinds}
-    for kind, first in re.findall(r"^shownOf \((\w+) \w+\) = take (\d+) \(fieldsOf .*?\+\+ covered\b", answers, re.M):
+    kinds = re.findall(r"^fields_of \((\w+) \w+\) =\s*(.*?)\[\]$", fields, re.S | re.M)
+    names = {kind: re.findall(r"\.(\w+) ∷", items) for kind, items in kinds}
+    for kind, first in re.findall(r"^shown_of \((\w+) \w+\) = take (\d+) \(fields_of .*?\+\+ covered\b", answers, re.M):
         names[kind].insert(int(first), "packets")
-    rle = re.search(r"^rleOut r = take \d+ \(\((.*?)\[\]\)", answers, re.M)[1].replace("covered (r .begin) (r .end)", ".packets")
+    rle = re.search(r"^rle_out r = take \d+ \(\((.*?)\[\]\)", answers, re.M)[1].replace("covered r.begin r.end", ".packets")
     return {"Rle": re.findall(r"\.(\w+) ∷", rle), **names}
