@@ -1,5 +1,5 @@
 #!/usr/bin/env python3
-"""Tries the check of the boundary (tools/boundary.py --check) on copies in which one of its three texts has drifted, and
+"""Tries the check of the boundary (tools/boundary.py --check) on copies in which one of its four texts has drifted, and
 holds the archive's names to the header's.
 
 Run in the repository's root after tools/archive.sh. Each drift has to be told, and the copy without one has to pass.
@@ -12,6 +12,7 @@ import sys
 import tempfile
 
 HEADER, RUST, RATTLE = "include/nuvaskoe.h", "rust/nuvaskoe/src/boundary.rs", "crates/{}/src/lib.rt"
+STATIC = "crates/nuvaskoe_c/src/tally_calls.rt"
 ARCHIVE = "target/staticlib/libnuvaskoe.a"
 READ = ["crates.txt", "README.md", "include/nuvaskoe.h.in", HEADER, "rust/Cargo.toml", RUST,
         "rust/nuvaskoe/src/refusals.rs", "crates/block/specs/Fields.antt", "crates/ffi_block/specs/Answers.antt"]
@@ -32,11 +33,16 @@ DRIFTS = [
     ("a call missing from the header", HEADER, "uint32_t nuvaskoe_version(void);\n", ""),
     ("a call missing from its text", "include/nuvaskoe.h.in", "@call nuvaskoe_version\n", ""),
     ("a call missing from Rust", RUST, "    pub(crate) fn nuvaskoe_version() -> u32;\n", ""),
-    ("a call missing from Rattle", RATTLE.format("ffi_tally"), "#[no_mangle]\npub extern \"C\" fn nuvaskoe_tally_close", "pub fn nuvaskoe_tally_close"),
+    ("a call missing from Rattle", RATTLE.format("ffi_tally"), "#[unsafe(no_mangle)]\npub extern \"C\" fn nuvaskoe_tally_close",
+     "pub fn nuvaskoe_tally_close"),
+    ("a call missing from the static library", STATIC, "#[unsafe(no_mangle)]\npub extern \"C\" fn nuvaskoe_tally_close", "fn closed"),
+    ("a clause missing from the static library", STATIC, "    ensures { result ≡ close_by (tally_in tally) }\n", ""),
+    ("another clause in Rattle", RATTLE.format("ffi_tally"), "ensures { result ≡ close_by (tally_in tally) }", "ensures { result ≡ result }"),
+    ("another call behind an exported one", STATIC, "    ffi_tally::nuvaskoe_tally_close(tally)", "    ffi_tally::nuvaskoe_tally_open(tally)"),
     ("a constant of another value", RATTLE.format("bursts"), "OVER_RANGE: u16 = 65_534", "OVER_RANGE: u16 = 65_533"),
-    ("another place of the packets covered", "crates/ffi_block/specs/Answers.antt", "take 3 (fieldsOf", "take 4 (fieldsOf"),
-    ("two places of Loss RLE exchanged", "crates/ffi_block/specs/Answers.antt", "r .source ∷ r .begin", "r .begin ∷ r .source"),
-    ("two fields exchanged in layout order", "crates/block/specs/Fields.antt", "e .source ∷ e .index", "e .index ∷ e .source"),
+    ("another place of the packets covered", "crates/ffi_block/specs/Answers.antt", "take 3 (fields_of", "take 4 (fields_of"),
+    ("two places of Loss RLE exchanged", "crates/ffi_block/specs/Answers.antt", "r.source ∷ r.begin", "r.begin ∷ r.source"),
+    ("two fields exchanged in layout order", "crates/block/specs/Fields.antt", "e.source ∷ e.index", "e.index ∷ e.source"),
     ("other words of a refusal", "README.md", "the card's check does not fit", "the card does not fit"),
     ("other advice on a reason", "README.md", "its sender measures wrongly", "its sender is wrong"),
 ]
@@ -49,7 +55,7 @@ def check(root):
 
 
 def copied(root):
-    for name in READ + [str(path) for path in pathlib.Path("crates").glob("*/src/lib.rt")]:
+    for name in READ + [str(path) for path in pathlib.Path("crates").glob("*/src/*.rt")]:
         (root / name).parent.mkdir(parents=True, exist_ok=True)
         shutil.copy(name, root / name)
 

@@ -1,6 +1,6 @@
 #!/usr/bin/env python3
-"""Makes the boundary's other texts from the Rattle source, which is proved: include/nuvaskoe.h and, in rust/nuvaskoe/src,
-boundary.rs and refusals.rs. What is made is not edited by hand.
+"""Makes the boundary's other texts from the Rattle source, which is proved: include/nuvaskoe.h, in rust/nuvaskoe/src
+boundary.rs and refusals.rs, and the crate of the static library, crates/nuvaskoe_c. What is made is not edited by hand.
 
     tools/boundary.py [--root DIR]            writes them
     tools/boundary.py --check [--root DIR]    writes nothing; exits 1 and shows where a file is not what would be written
@@ -14,6 +14,7 @@ sys.dont_write_bytecode = True  # a run leaves no files in the tree
 from c_header import Header
 from rattle_source import Source
 from rust_boundary import boundary_rs, refusals_rs
+from static_library import static_library
 
 
 def made(root):
@@ -27,6 +28,7 @@ def made(root):
         "include/nuvaskoe.h": header.text,
         "rust/nuvaskoe/src/boundary.rs": boundary_rs(source, header),
         "rust/nuvaskoe/src/refusals.rs": refusals_rs(source),
+        **static_library(source),
     }
 
 
@@ -40,6 +42,7 @@ def main():
         path = words.root / name
         held = path.read_text() if path.exists() else ""
         if not words.check:
+            path.parent.mkdir(parents=True, exist_ok=True)
             path.write_text(text)
         elif held != text:
             differing = 1

@@ -1,0 +1,68 @@
+// The exported calls of crate ffi_compose.
+// Made by tools/boundary.py from the Rattle source; not edited by hand.
+ghost use Rattle.std.specs.Prelude.{◌≡◌};
+ghost use Rattle.refusal.specs.Answer.{after};
+ghost use Rattle.block.specs.declared.Block.TheVariants.{Measured, Loss, Discard, Effective, Streams};
+ghost use Rattle.encode.specs.Words.{words_of};
+ghost use Rattle.compose.specs.Writing.{new_bytes, new_answer, add_answer, grown};
+ghost use Rattle.ffi_answer.specs.Answers.{written_out};
+
+use block::{DiscardSummary, EffectiveSummary, LossSummary, Measurement, StreamCounts};
+use ffi_answer::WrittenSize;
+
+// As ffi_compose::nuvaskoe_packet_new.
+#[unsafe(no_mangle)]
+pub extern "C" fn nuvaskoe_packet_new(sender: u32, out: &mut [u8]) -> WrittenSize
+    ensures answer { result ≡ written_out (new_answer out.old) }
+    ensures buffer { out.new ≡ after (new_answer out.old) (new_bytes sender) out.old }
+{
+    ffi_compose::nuvaskoe_packet_new(sender, out)
+}
+
+// As ffi_compose::nuvaskoe_packet_add_measurement.
+#[unsafe(no_mangle)]
+pub extern "C" fn nuvaskoe_packet_add_measurement(out: &mut [u8], block: Measurement) -> WrittenSize
+    ensures answer { result ≡ written_out (add_answer out.old (Measured block)) }
+    ensures buffer { out.new ≡ after (add_answer out.old (Measured block)) (grown out.old (words_of (Measured block))) out.old }
+{
+    ffi_compose::nuvaskoe_packet_add_measurement(out, block)
+}
+
+// As ffi_compose::nuvaskoe_packet_add_loss.
+#[unsafe(no_mangle)]
+pub extern "C" fn nuvaskoe_packet_add_loss(out: &mut [u8], block: LossSummary) -> WrittenSize
+    ensures answer { result ≡ written_out (add_answer out.old (Loss block)) }
+    ensures buffer { out.new ≡ after (add_answer out.old (Loss block)) (grown out.old (words_of (Loss block))) out.old }
+{
+    ffi_compose::nuvaskoe_packet_add_loss(out, block)
+}
+
+// As ffi_compose::nuvaskoe_packet_add_discard.
+#[unsafe(no_mangle)]
+pub extern "C" fn nuvaskoe_packet_add_discard(out: &mut [u8], block: DiscardSummary) -> WrittenSize
+    ensures answer { result ≡ written_out (add_answer out.old (Discard block)) }
+    ensures buffer { out.new ≡ after (add_answer out.old (Discard block)) (grown out.old (words_of (Discard block))) out.old }
+{
+    ffi_compose::nuvaskoe_packet_add_discard(out, block)
+}
+
+// As ffi_compose::nuvaskoe_packet_add_effective.
+#[unsafe(no_mangle)]
+pub extern "C" fn nuvaskoe_packet_add_effective(
+    out: &mut [u8],
+    block: EffectiveSummary,
+) -> WrittenSize
+    ensures answer { result ≡ written_out (add_answer out.old (Effective block)) }
+    ensures buffer { out.new ≡ after (add_answer out.old (Effective block)) (grown out.old (words_of (Effective block))) out.old }
+{
+    ffi_compose::nuvaskoe_packet_add_effective(out, block)
+}
+
+// As ffi_compose::nuvaskoe_packet_add_streams.
+#[unsafe(no_mangle)]
+pub extern "C" fn nuvaskoe_packet_add_streams(out: &mut [u8], block: StreamCounts) -> WrittenSize
+    ensures answer { result ≡ written_out (add_answer out.old (Streams block)) }
+    ensures buffer { out.new ≡ after (add_answer out.old (Streams block)) (grown out.old (words_of (Streams block))) out.old }
+{
+    ffi_compose::nuvaskoe_packet_add_streams(out, block)
+}
