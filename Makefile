@@ -5,15 +5,16 @@ PREFIX ?= /usr/local
 DESTDIR ?=
 BUILT := target/staticlib/libnuvaskoe.a
 COMMAND := target/bin/nuvaskoe
-SOURCES := crates.txt $(shell find crates -name '*.rt' -o -name '*.antt')
+SOURCES := crates.txt $(shell find crates -name out -prune -o '(' -name '*.rt' -o -name '*.antt' ')' -print)
 VERSION = $(shell sed -n 's/^version = "\(.*\)"/\1/p' rust/Cargo.toml)
 
 .PHONY: all command test install bench compare boundary clean
 
 # Everything proved, the programs and the command in target/bin, the library in target/staticlib.
 all:
-	rt check
+	rt all check
 	bash tools/archive.sh
+	bash tools/programs.sh
 	$(MAKE) command
 
 # The gate.
@@ -48,9 +49,9 @@ bench: $(BUILT)
 compare: $(BUILT)
 	cd rust && cargo run --offline --example compare
 
-# The header and the Rust declarations, made from the Rattle source.
+# The header, the Rust declarations and the crate of the static library, made from the Rattle source.
 boundary:
 	python3 tools/boundary.py
 
 clean:
-	rm -rf target rust/target
+	rm -rf target rust/target crates/*/out

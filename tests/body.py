@@ -1,7 +1,7 @@
 #!/usr/bin/env python3
 """Runs target/bin/body on packets and arguments and compares what it writes with the body computed here from document 01.
 
-Run in the repository's root after `rt check body`. Prints one line; exit status 1 where an output differs.
+Run in the repository's root after tools/programs.sh. Prints one line; exit status 1 where an output differs.
 """
 import struct
 import subprocess

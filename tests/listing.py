@@ -2,7 +2,7 @@
 """Runs target/bin/listing on packets and compares what it writes with text computed here from document 01 alone, and for
 blocks of type 1 by loss_rle.py from document 02, ticket 5.
 
-Run in the repository's root after `rt check listing`. Prints one line; exit status 1 where a text differs.
+Run in the repository's root after tools/programs.sh. Prints one line; exit status 1 where a text differs.
 `--sample` writes crates/listing/stdin and stdout instead, `--time` prints times of large packets.
 """
 import os

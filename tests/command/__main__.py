@@ -2,7 +2,7 @@
 
 What it answers is compared with the papers computed a second time (document01.py and document02.py), its lines with the program
 `listing`, and its JSON is read by python's parser. Run as `python3 tests/command` in the repository's root after `make command`
-and `rt check listing`. Prints one line; exit status 1 with the first thing that is wrong.
+and tools/programs.sh. Prints one line; exit status 1 with the first thing that is wrong.
 """
 import pathlib
 import re
