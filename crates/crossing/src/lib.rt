@@ -2,6 +2,7 @@
 // of the step to batch j + 1 behind a batch that is known. Where the count cannot cross the threshold on the way, all of them are
 // settled in one step.
 #![tactic(auto)]
+
 ghost use Rattle.std.specs.Prelude.{◌≡◌, cond, ltb};
 ghost use Rattle.packed.specs.Words.{word_bits};
 ghost use Rattle.crossing.specs.Crossing.{over_among};
