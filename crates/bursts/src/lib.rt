@@ -3,6 +3,7 @@
 // What the sums are over, groups of events, is in specs/Groups.antt. Any sums may be handed in: those that
 // are not sound are refused, and no product of them wraps.
 #![tactic(auto)]
+
 ghost use Rattle.std.specs.Prelude.{◌≡◌};
 ghost use Rattle.bursts.specs.Sums.{counts_sound, durations_sound, sums_sound};
 ghost use Rattle.bursts.specs.Figures.{rate_of, ranged, mean_of, variance_of, measure_of};
