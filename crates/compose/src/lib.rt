@@ -1,6 +1,7 @@
 // Report packets written: document 01, "Writing". A new packet, and a typed block added to the packet at the
 // front of a lent buffer, which may be longer than the packet; what is judged before words of any kind are appended.
 #![tactic(auto)]
+
 ghost use Rattle.std.specs.Prelude.{◌≡◌};
 ghost use Rattle.refusal.specs.Answer.{after};
 ghost use Rattle.encode.specs.Words.{words_of};

@@ -1,6 +1,7 @@
 // The front panel's two dials: document 02, ticket 4. A panel setting holds where the burst and the gap needle stand, each a
 // rate as a fraction from 0 to 1; what is no block 17 or 18 that could be written leaves both dark.
 #![tactic(auto)]
+
 ghost use Rattle.std.specs.Prelude.{◌≡◌};
 ghost use Rattle.frame.specs.Packet.{packet_of};
 ghost use Rattle.packet.specs.Answers.{block_of};
