@@ -1,6 +1,6 @@
 -- The cases of reading a card: what an accepted card has, and that twenty digits with a wrong check are
 -- refused with 12. Assumes nothing.
-use Prim.Native.Nat.{ℕ, ◌-◌, ◌%◌}
+use Prim.Native.Nat.{ℕ, ◌%◌}
 use mathlib.Core.Path.{◌≡◌}
 use mathlib.Core.Bool.{true}
 use mathlib.Core.List.{List}

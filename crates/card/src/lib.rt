@@ -4,6 +4,7 @@
 //      0     3         8        13        18  20
 //     | Gmin | batch   | threshold | spacing | check |
 #![tactic(auto)]
+
 ghost use Rattle.std.specs.Prelude.{◌≡◌, ◌++◌, ◌-◌, ◌≤◌, length, take, drop};
 ghost use Rattle.refusal.specs.Answer.{after};
 ghost use Rattle.settings.specs.Ranges.{limits};

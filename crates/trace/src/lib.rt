@@ -1,6 +1,7 @@
 // A trace and what is counted in it: document 01, "The trace and its figures". One byte a packet; a trace is
 // accepted or refused as a whole, and a call counts one kind of event in it.
 #![tactic(auto)]
+
 ghost use Rattle.std.specs.Prelude.{◌≡◌, ltb, length};
 ghost use Rattle.trace.specs.Events.{event_in, event_number};
 ghost use Rattle.trace.specs.Sum.{bit};

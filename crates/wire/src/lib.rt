@@ -1,6 +1,7 @@
 // Big-endian numbers in bytes: RFC 3611, section 2. A number that runs past the end reads as 0 and is not
 // written, so that the calls take any bytes and any position; a caller that knows its size never meets that.
 #![tactic(auto)]
+
 ghost use Rattle.std.specs.Prelude.{◌≡◌, ◌+◌, ◌≤◌, length};
 ghost use Rattle.wire.specs.BigEndian.{be16, u16_at, u32_at, bytes16, bytes32, placed};
 

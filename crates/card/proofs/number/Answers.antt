@@ -1,6 +1,6 @@
 -- `card::number` meets its contract. The loop's invariant is `Taken`; at most 18 digits, so the number fits.
 -- Assumes nothing.
-use Prim.Native.Nat.{◌-◌, ◌^◌, ◌<◌}
+use Prim.Native.Nat.{◌^◌, ◌<◌}
 use mathlib.Core.Path.{◌≡◌, sym, ◌∙◌}
 use mathlib.Core.Bool.{true}
 use native.Mathlib.Omega.{arith}

@@ -1,5 +1,4 @@
 -- `card::put_digits` meets its contract. The loop's invariant is `Put`. Assumes nothing.
-use Prim.Native.Nat.{◌-◌}
 use native.Mathlib.Omega.{arith}
 use Rattle.card.proofs.Loops.{put_none, put_more, put_length, put_all}
 use Rattle.card.proofs.put_digits.Goals as goal

@@ -1,5 +1,4 @@
 -- `card::put_digits` meets its contract. The loop's invariant is `Put`. Assumes nothing.
-use Prim.Native.Nat.{◌-◌}
 use Rattle.card.proofs.Loops.{Put}
 use Rattle.card.proofs.put_digits.Given as goal
 

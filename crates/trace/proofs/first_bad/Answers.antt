@@ -1,5 +1,4 @@
 -- `trace::first_bad` meets its contract. The loop's invariant is `Good`. Assumes nothing.
-use Prim.Native.Nat.{◌-◌}
 use native.Mathlib.Omega.{arith}
 use Rattle.trace.proofs.Judging.{good_none, good_more, good_bad, good_all}
 use Rattle.trace.proofs.first_bad.Goals as goal

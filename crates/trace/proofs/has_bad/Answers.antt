@@ -1,5 +1,4 @@
 -- `trace::has_bad` meets its contract. The loop's invariant is `Asked`. Assumes nothing.
-use Prim.Native.Nat.{◌-◌}
 use native.Mathlib.Omega.{arith}
 use Rattle.trace.proofs.Judging.{asked_none, asked_more, asked_all}
 use Rattle.trace.proofs.has_bad.Goals as goal
