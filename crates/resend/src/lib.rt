@@ -1,6 +1,7 @@
 // The resend plan: demand 3 and document 01, "The plan". One byte for each packet of a trace, 1 to resend and 0
 // otherwise, so that no batch is left with more than T losses: as few marks as can be, each as late as can be.
 #![tactic(auto)]
+
 ghost use Rattle.std.specs.Prelude.{◌≡◌, ◌++◌, ◌-◌, ◌<◌, ◌≤◌, min, length, get_or, drop};
 ghost use Rattle.trace.specs.Sum.{bit};
 ghost use Rattle.trace.specs.Trace.{counted_at, judged};
