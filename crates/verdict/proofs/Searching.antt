@@ -10,7 +10,7 @@ use borrow.Author.Tests.{eq-eqb, ne_eqb, le-leb, lt-leb}
 use lib.Dec.{eqb, leb}
 use lib.ListN.{length, get_or}
 use Rattle.sorting.specs.Order.{Sorted}
-use Rattle.verdict.specs.Search.{Among, Search}
+use Rattle.verdict.specs.Search.{Search}
 use Rattle.verdict.specs.Sources.{member}
 use Rattle.verdict.proofs.Members.{nowhere, somewhere}
 

@@ -1,6 +1,7 @@
 // A block's verdict as a number: from its own bytes, and, where it waits for a measurement, from a table of the measured
 // sources.
 #![tactic(auto)]
+
 ghost use Rattle.std.specs.Prelude.{◌≡◌, cond, [], leb, ◌<◌, ◌≤◌, length};
 ghost use Rattle.sorting.specs.Order.{Sorted};
 ghost use Rattle.block.specs.Reading.{read_rle, read_bytes, measures_of};
