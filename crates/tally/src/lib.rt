@@ -2,6 +2,7 @@
 // the event that it counts, takes packets one after the other, by value, and closes with the figures. Any
 // tally may be handed in: one that is not sound is refused, and no sum or product of it wraps.
 #![tactic(auto)]
+
 ghost use Rattle.std.specs.Prelude.{◌≡◌};
 ghost use Rattle.tally.specs.Tally.{fresh, open_of, counted_in, open_within, sound, step_of, take_one, refused_with, close_of, of_trace};
 ghost use Rattle.tally.specs.Steps.{Room, Bounded, sums_within, bounded};
