@@ -1,6 +1,7 @@
 // A trace packed into words by what is chosen to count, and words unpacked into a trace of zeros and ones: document 02, tickets 6
 // and 7. Both go eight packets at a time, and one by one behind the last whole word.
 #![tactic(auto)]
+
 ghost use Rattle.std.specs.Prelude.{◌≡◌, ◌++◌, ◌+◌, ◌*◌, ◌<◌, ◌≤◌, length, drop};
 ghost use Rattle.refusal.specs.Answer.{after};
 ghost use Rattle.trace.specs.Trace.{counted_at};
