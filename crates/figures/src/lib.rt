@@ -2,6 +2,7 @@
 // and its figures"; RFC 7004, sections 3.1 and 3.2. A block that was measured is made from its trace or its tally, so
 // that a 17 has the figures of lost packets and an 18 those of discarded ones, and no block those of either.
 #![tactic(auto)]
+
 ghost use Rattle.std.specs.Prelude.{◌≡◌};
 ghost use Rattle.trace.specs.declared.Event.TheVariants.{Lost, Discarded};
 ghost use Rattle.tally.specs.Tally.{close_of};
