@@ -1,6 +1,6 @@
 -- Each difference of two lists of contents has its entry, where fields of one type are as many. Assumes nothing.
 use Prim.Native.Nat.{ℕ, zero, suc, ◌+◌, ◌<◌, ◌≤◌}
-use mathlib.Core.Path.{◌≡◌, refl, sym, ap, ◌∙◌}
+use mathlib.Core.Path.{◌≡◌, refl, sym, ap, ◌∙◌, subst}
 use mathlib.Core.Logic.{◌⊎◌, inl, inr}
 use mathlib.Core.Bool.{Bool, true, false, cond}
 use mathlib.Core.List.{List, [], ◌∷◌, ◌++◌}
@@ -69,7 +69,8 @@ module _ (count : ℕ → ℕ) where
   unfolding blocks_from
   has_first k [] ys j a b = absurd (omega arith)
   has_first k (c ∷ xs) [] zero a b = let same : k + 0 ≡ k = omega arith in rw same (inl refl)
-  has_first k (c ∷ xs) [] (suc j) a b = rw (← shifted k j) (inr (has_first (suc k) xs [] j (omega arith) (omega arith)))
+  has_first k (c ∷ xs) [] (suc j) a b =
+      inr (subst (λ (i : ℕ). In (only_first i) (blocks_from (suc k) xs [])) (shifted k j) (has_first (suc k) xs [] j (omega arith) (omega arith)))
   has_first k (c ∷ xs) (e ∷ ys) zero a b = absurd (omega arith)
   has_first k (c ∷ xs) (e ∷ ys) (suc j) a b =
       rw (← shifted k j) (in_back (only_first (suc k + j)) (between k c e) (blocks_from (suc k) xs ys) (has_first (suc k) xs ys j (omega arith) (omega arith)))
@@ -78,7 +79,7 @@ module _ (count : ℕ → ℕ) where
   unfolding only_seconds
   has_seconds k [] j b = absurd (omega arith)
   has_seconds k (e ∷ ys) zero b = let same : k + 0 ≡ k = omega arith in rw same (inl refl)
-  has_seconds k (e ∷ ys) (suc j) b = rw (← shifted k j) (inr (has_seconds (suc k) ys j (omega arith)))
+  has_seconds k (e ∷ ys) (suc j) b = inr (subst (λ (i : ℕ). In (only_second i) (only_seconds (suc k) ys)) (shifted k j) (has_seconds (suc k) ys j (omega arith)))
 
   has_second : (k : ℕ) (xs ys : List Content) (j : ℕ) → length xs ≤ j → j < length ys → In (only_second (k + j)) (blocks_from k xs ys)
   unfolding blocks_from
