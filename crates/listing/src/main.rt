@@ -82,6 +82,7 @@ fn put_line(s: &[u8], at: usize, k: usize, verdict: u32, page: &mut [u8], end: u
 }
 
 // A block read by itself, judged by its verdict among the blocks of its packet: only D4 is added.
+#[tactic(auto, unfolding(crate::specs::Room::judged_by))]
 fn judged(own: BlockRead, verdict: u32) -> BlockRead
     ensures { result ≡ judged_by own verdict }
 {
