@@ -1,6 +1,6 @@
 -- Batches settled by words: what enters and leaves in 64 steps as the bits of two windows, a stretch without a loss, and words that
 -- are zero. Assumes nothing.
-use Prim.Native.Nat.{ℕ, zero, suc, ◌+◌, ◌-◌, ◌*◌, ◌/◌, ◌%◌, ◌^◌, ◌<◌, ◌≤◌}
+use Prim.Native.Nat.{ℕ, suc, ◌+◌, ◌-◌, ◌*◌, ◌/◌, ◌%◌, ◌^◌, ◌<◌, ◌≤◌}
 use mathlib.Core.Path.{◌≡◌, refl, sym, ap, ap₂, ◌∙◌}
 use mathlib.Core.Bool.{Bool, true, false, ◌&&◌, not}
 use mathlib.Core.List.{List}
@@ -11,7 +11,7 @@ use borrow.Author.Tests.{lt-ltb, le-ltb, ltb-false, eqb-true, not-false}
 use lib.Bits.{bit_or, or_add_and, and_le_l, and_le_r}
 use lib.Dec.{eqb, ltb}
 use lib.ListN.{get_or}
-use Rattle.trace.specs.Sum.{sum, bit, bits, count}
+use Rattle.trace.specs.Sum.{bit, bits, count}
 use Rattle.trace.specs.Trace.{trace_max}
 use Rattle.trace.proofs.Sums.{sum_moved, sum_cut, count_none, count_zero}
 use Rattle.batch.specs.Batches.{losses_in, is_over}

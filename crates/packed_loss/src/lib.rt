@@ -1,6 +1,7 @@
 // Effective loss of a packed trace: document 02, ticket 6. Batches are those of the byte form, and so is the answer. The running
 // count goes on by 64 batches at a time, and over words without a loss by as many as there are.
 #![tactic(auto)]
+
 ghost use Rattle.std.specs.Prelude.{◌≡◌, false, ℕ, ◌+◌, ◌-◌, ◌<◌, ◌≤◌, min, length, get_or};
 ghost use Rattle.trace.specs.Sum.{count};
 ghost use Rattle.trace.specs.Trace.{trace_max};
