@@ -1,6 +1,7 @@
 // Burst and gap figures of a trace, and their blocks, at the boundary to C. An event is known by its number; any other
 // number is refusal 15.
 #![tactic(auto)]
+
 ghost use Rattle.std.specs.Prelude.{◌≡◌};
 ghost use Rattle.trace.specs.Events.{event_in};
 ghost use Rattle.figures.specs.Figures.{loss_block, discard_block};
