@@ -1,5 +1,6 @@
 // The tally at the boundary to C: a struct of plain numbers, its event by number, passed by value and handed back.
 #![tactic(auto)]
+
 ghost use Rattle.std.specs.Prelude.{◌≡◌};
 ghost use Rattle.trace.specs.Events.{event_in};
 ghost use Rattle.ffi_tally.specs.Answers.{tally_in, tally_out, opened_out, taken_out};
