@@ -1,6 +1,7 @@
 // The block 17 or 18 of a measurement at the boundary to C: of a trace, or of a tally. A crate of its own, so that the closing
 // of a tally keeps one caller in crate ffi_tally and is compiled into it.
 #![tactic(auto)]
+
 ghost use Rattle.std.specs.Prelude.{◌≡◌};
 ghost use Rattle.trace.specs.declared.Event.TheVariants.{Lost, Discarded};
 ghost use Rattle.figures.specs.Figures.{figures_in, summary_of};
