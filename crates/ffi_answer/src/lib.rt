@@ -2,6 +2,7 @@
 // library's version. An enum cannot be exported, so each answer goes out as a struct of plain numbers, whose value
 // for each case is a definition of specs/Answers.antt. include/nuvaskoe.h is made of the comments and items here.
 #![tactic(auto)]
+
 ghost use Rattle.std.specs.Prelude.{◌≡◌};
 ghost use Rattle.ffi_answer.specs.Answers.{version, written_out};
 

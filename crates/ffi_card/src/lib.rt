@@ -1,5 +1,6 @@
 // The settings card at the boundary to C.
 #![tactic(auto)]
+
 ghost use Rattle.std.specs.Prelude.{◌≡◌};
 ghost use Rattle.refusal.specs.Answer.{after};
 ghost use Rattle.settings.specs.Ranges.{limits};

@@ -1,6 +1,7 @@
 // Report packets written at the boundary to C: one call for each kind of block, each with a struct of exact widths, so
 // that every value that C can pass is one that document 01 speaks of.
 #![tactic(auto)]
+
 ghost use Rattle.std.specs.Prelude.{◌≡◌};
 ghost use Rattle.refusal.specs.Answer.{after};
 ghost use Rattle.block.specs.declared.Block.TheVariants.{Measured, Loss, Discard, Effective, Streams};

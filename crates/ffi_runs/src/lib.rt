@@ -1,5 +1,6 @@
 // Per-packet loss at the boundary to C: a trace read out of a block of type 1, Loss RLE, and a trace added to a packet as one.
 #![tactic(auto)]
+
 ghost use Rattle.std.specs.Prelude.{◌≡◌};
 ghost use Rattle.refusal.specs.Answer.{after};
 ghost use Rattle.frame.specs.Packet.{packet_of};

@@ -1,6 +1,7 @@
 // Per-packet loss as a block of type 1, Loss RLE: document 02, ticket 5. A trace read out of such a block of a packet, and a trace
 // added to a packet as one.
 #![tactic(auto)]
+
 ghost use Rattle.std.specs.Prelude.{◌≡◌, ◌+◌, ◌*◌, ◌≤◌, length, drop};
 ghost use Rattle.refusal.specs.Answer.{after};
 ghost use Rattle.wire.specs.BigEndian.{placed};

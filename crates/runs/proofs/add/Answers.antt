@@ -38,10 +38,10 @@ returns-in-Size c =
     let counted : 3 + c.word_count-count.result ≡ length (rle_words c.args.source c.args.begin c.args.trace.now) = let args = c.args in omega (arith, c.word_count-count.ensures, rle_long args.source args.begin args.trace.now) in
     let answer : add_answer c.args.out.now c.args.source c.args.begin c.args.trace.now ≡ c.judge_append.result = sym (c.judge_append.ensures ∙ ap₂ (λ (own : Judged) (n : ℕ). append_answer c.args.out.now own n) c.judge_within-own.ensures counted) in
     let fits : Fit c.args.out.now c.judge_within-own.result (3 + c.word_count-count.result) c.in-Size.size = fit _ _ _ _ (sym c.judge_append.ensures ∙ c.in-Size.is) in
-    let told = added _ _ _ _ _ _ _ _ _ counted fits (answer ∙ c.in-Size.is) c.write.ensures c.put_u16.ensures in record { answer = told.0; buffer = told.1; }
+    let told = added _ _ _ _ _ _ _ _ _ counted fits (answer ∙ c.in-Size.is) c.write.ensures c.put_u16.ensures in record { answer = told.0; buffer = told.1 }
 
 pub returns-in-Refused : goal.returns-in-Refused
 returns-in-Refused c =
     let counted : 3 + c.word_count-count.result ≡ length (rle_words c.args.source c.args.begin c.args.trace.now) = let args = c.args in omega (arith, c.word_count-count.ensures, rle_long args.source args.begin args.trace.now) in
     let answer : add_answer c.args.out.now c.args.source c.args.begin c.args.trace.now ≡ c.judge_append.result = sym (c.judge_append.ensures ∙ ap₂ (λ (own : Judged) (n : ℕ). append_answer c.args.out.now own n) c.judge_within-own.ensures counted) in
-    let told = not_added _ _ _ _ _ (answer ∙ c.in-Refused.is) in record { answer = told.0; buffer = told.1; }
+    let told = not_added _ _ _ _ _ (answer ∙ c.in-Refused.is) in record { answer = told.0; buffer = told.1 }

@@ -1,5 +1,5 @@
 -- `runs::vector` meets its contract. The loop's invariant is `Packing`. Assumes nothing.
-use Rattle.std.proofs.Common.{◌+◌, ◌-◌, arith}
+use Rattle.std.proofs.Common.{◌+◌, arith}
 use Rattle.runs.proofs.Packing.{packing_none, packing_here, packing_room, packing_more, packing_all}
 use Rattle.runs.proofs.vector.Goals as goal
 

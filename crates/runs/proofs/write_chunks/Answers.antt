@@ -1,7 +1,7 @@
 -- `runs::write_chunks` meets its contract. The loop's invariant is `Stored`. Assumes nothing.
 use Rattle.wire.specs.BigEndian.{bytes32, placed}
 use Rattle.encode.specs.Words.{halves, in_bytes}
-use Rattle.std.proofs.Common.{ℕ, ◌+◌, ◌-◌, ◌*◌, List, sym, ap, ◌∙◌, ap₂, arith, take_all}
+use Rattle.std.proofs.Common.{ℕ, ◌+◌, ◌*◌, List, sym, ap, ◌∙◌, ap₂, arith, take_all}
 use Rattle.encode.proofs.Storing.{stored_start, stored_length, stored_more, stored_end}
 use Rattle.runs.specs.Writing.{words_from}
 use Rattle.runs.proofs.ReadBack.{length_words, get_d_words}
