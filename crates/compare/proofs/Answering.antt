@@ -1,8 +1,8 @@
 -- The cases of comparing two packets: the answer, and the list afterwards. Assumes nothing.
-use Prim.Native.Nat.{ℕ, ◌+◌, ◌*◌, ◌/◌, ◌<◌, ◌≤◌}
-use mathlib.Core.Path.{◌≡◌, refl, sym, ap, ◌∙◌}
-use mathlib.Core.Bool.{Bool, true, false, ◌&&◌}
-use mathlib.Core.List.{List, [], ◌++◌}
+use Prim.Native.Nat.{ℕ, ◌*◌, ◌/◌, ◌<◌, ◌≤◌}
+use mathlib.Core.Path.{◌≡◌, sym, ap, ◌∙◌}
+use mathlib.Core.Bool.{true, ◌&&◌}
+use mathlib.Core.List.{List, ◌++◌}
 use native.Mathlib.Omega.{arith}
 use native.Mathlib.Decide.{dec_le}
 use borrow.Author.Tests.{le-leb, lt-leb, leb-true}
@@ -16,7 +16,6 @@ use Rattle.frame.specs.Frames.{Entry}
 use Rattle.frame.specs.Packet.{good, bad, packet_of}
 use Rattle.packet.specs.Blocks.{measured}
 use Rattle.packet.proofs.Chosen.{blocks_are}
-use Rattle.verdict.specs.Sources.{member, Table}
 use Rattle.difference.specs.Numbers.{Adds}
 use Rattle.difference.proofs.Writing.{written_none, written_all}
 use Rattle.compare.specs.declared.Compared.{Compared}

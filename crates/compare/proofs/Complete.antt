@@ -1,17 +1,16 @@
 -- Each difference of two lists of contents has its entry, where fields of one type are as many. Assumes nothing.
 use Prim.Native.Nat.{ℕ, zero, suc, ◌+◌, ◌<◌, ◌≤◌}
 use mathlib.Core.Path.{◌≡◌, refl, sym, ap, ◌∙◌, subst}
-use mathlib.Core.Logic.{◌⊎◌, inl, inr}
+use mathlib.Core.Logic.{inl, inr}
 use mathlib.Core.Bool.{Bool, true, false, cond}
-use mathlib.Core.List.{List, [], ◌∷◌, ◌++◌}
+use mathlib.Core.List.{List, [], ◌∷◌}
 use native.Mathlib.Omega.{arith}
-use borrow.Author.Tests.{eqb-true, eq-eqb, ne_eqb}
-use lib.Dec.{eqb}
+use borrow.Author.Tests.{eq-eqb, ne_eqb}
 use lib.ListN.{length, get_or}
 use Rattle.difference.specs.declared.Difference.{Difference}
 use Rattle.difference.specs.Differences.{fields, whole_block, only_first, only_second, where_unequal, fields_from}
 use Rattle.compare.specs.Differences.{Content, typed, bytes, same_numbers, between, only_seconds, blocks_from}
-use Rattle.compare.proofs.Nothing.{same_bytes, Sized, AllSized}
+use Rattle.compare.proofs.Nothing.{same_bytes, AllSized}
 use Rattle.compare.proofs.Members.{In, in_front, in_back}
 use Rattle.compare.proofs.Sound.{at, Diff, field_at, block_at, first_at, second_at, shifted}
 

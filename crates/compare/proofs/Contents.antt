@@ -1,6 +1,6 @@
 -- What is compared of the blocks of a packet: as many contents as blocks, each that of its block, and as many fields as the
 -- block's type has. Assumes nothing.
-use Prim.Native.Nat.{ℕ, zero, suc, ◌<◌, ◌≤◌}
+use Prim.Native.Nat.{ℕ, zero, suc, ◌<◌}
 use mathlib.Core.Path.{◌≡◌, refl, sym, ap, ◌∙◌}
 use mathlib.Core.Logic.{◌⊎◌, inl, inr}
 use mathlib.Core.Bool.{cond}
@@ -10,16 +10,15 @@ use lib.Dec.{eqb}
 use lib.ListN.{length, get_or}
 use Rattle.block.specs.Types.{measurement_type, loss_type, discard_type, effective_type, unmeasured}
 use Rattle.block.specs.Fields.{fields_of}
-use Rattle.block.specs.Layouts.{measurement_in, loss_in, discard_in, effective_in, streams_in}
 use Rattle.block.specs.declared.Block.{Block}
 use Rattle.block.specs.declared.BlockRead.{BlockRead}
 use Rattle.block.specs.declared.BlockRead.TheVariants.{Typed, Rle, Unknown, Dropped}
 use Rattle.block.proofs.Cases.{typed_answers}
 use Rattle.frame.specs.Frames.{Entry}
-use Rattle.frame.specs.Packet.{none, one, numbered}
+use Rattle.frame.specs.Packet.{one, numbered}
 use Rattle.packet.specs.Blocks.{read_alone, read_in}
 use Rattle.packet.proofs.Judging.{own_but_unmeasured}
-use Rattle.compare.specs.Differences.{Content, typed, bytes, content_of, contents}
+use Rattle.compare.specs.Differences.{bytes, content_of, contents}
 use Rattle.compare.proofs.Nothing.{Sized, AllSized}
 
 pub contents_length : (all es : List Entry) → length (contents all es) ≡ length es

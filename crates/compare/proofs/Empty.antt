@@ -1,28 +1,27 @@
 -- No entry exactly where nothing differs; so none of a packet with itself, and none where reserved bits of typed blocks alone
 -- differ; and the entries turned round. Laws of specs/Laws.antt. Assumes nothing.
-use Prim.Native.Nat.{ℕ, zero, suc, ◌<◌, ◌≤◌}
+use Prim.Native.Nat.{ℕ, zero, suc, ◌<◌}
 use mathlib.Core.Path.{◌≡◌, refl, sym, ap, ap₂, ◌∙◌}
-use mathlib.Core.Logic.{◌↔◌, ◌⊎◌, inl, inr}
-use mathlib.Core.List.{List, [], ◌∷◌, ◌++◌, map, map-append}
+use mathlib.Core.Logic.{inl, inr}
+use mathlib.Core.List.{List, [], ◌∷◌, ◌++◌, map-append}
 use native.Mathlib.Omega.{arith}
 use lib.ListN.{length, get_or}
-use Rattle.block.specs.Fields.{fields_of}
 use Rattle.block.specs.declared.LossRle.{LossRle}
 use Rattle.block.specs.declared.Block.{Block}
 use Rattle.block.specs.declared.BlockRead.{BlockRead}
 use Rattle.block.specs.declared.BlockRead.TheVariants.{Typed, Rle, Unknown, Dropped}
 use Rattle.frame.specs.Frames.{Entry}
-use Rattle.frame.specs.Packet.{Packet, good, bad, one, numbered}
+use Rattle.frame.specs.Packet.{good, bad, one, numbered}
 use Rattle.packet.specs.Blocks.{read_in}
 use Rattle.packet.specs.Reserved.{cleared, cleared_all}
 use Rattle.packet.proofs.Reserved.{clear_read, clear_length}
 use Rattle.difference.specs.declared.Difference.{Difference}
 use Rattle.difference.specs.Differences.{senders, where_unequal}
 use Rattle.compare.specs.Differences.{Content, typed, bytes, content_of, contents, blocks_from}
-use Rattle.compare.specs.Laws.{SameFields, SameBytes, Alike, NothingDiffers, EmptyExactly, SelfEmpty, TypedReserved, ReservedEmpty, turned, Turned}
+use Rattle.compare.specs.Laws.{Alike, NothingDiffers, EmptyExactly, SelfEmpty, TypedReserved, ReservedEmpty, turned, Turned}
 use Rattle.compare.proofs.Nothing.{append_empty, unequal_none, equal_none, blocks_none, blocks_self}
 use Rattle.compare.proofs.Turning.{unequal_turned, blocks_turned}
-use Rattle.compare.proofs.Contents.{contents_length, has_number, number_within, content_at_lem, field_count, all_sized}
+use Rattle.compare.proofs.Contents.{contents_length, has_number, content_at_lem, field_count, all_sized}
 
 -- two contents are the same exactly where their blocks are alike
 alike : (xs ys : List Entry) (x y : Entry) → content_of x (read_in xs x) ≡ content_of y (read_in ys y) → Alike xs ys x y

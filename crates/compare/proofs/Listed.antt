@@ -1,25 +1,23 @@
 -- Each entry of the lent list is a difference, each difference has its entry, and they stand in order: `ListedExactly` of
 -- specs/Laws.antt. Assumes nothing.
-use Prim.Native.Nat.{ℕ, zero, suc, ◌+◌, ◌*◌, ◌<◌, ◌≤◌}
-use mathlib.Core.Path.{◌≡◌, refl, sym, ap, ◌∙◌}
+use Prim.Native.Nat.{ℕ, ◌+◌, ◌*◌}
+use mathlib.Core.Path.{◌≡◌, refl, ◌∙◌}
 use mathlib.Core.Logic.{◌⊎◌, inl, inr}
 use mathlib.Core.Bool.{Bool, true, false}
-use mathlib.Core.List.{List, [], ◌∷◌, ◌++◌}
+use mathlib.Core.List.{List, ◌++◌}
 use native.Mathlib.Omega.{arith}
 use lib.Dec.{leb}
 use lib.ListN.{length, get_or, drop}
 use Rattle.refusal.specs.Table.{buffer_short}
 use Rattle.refusal.specs.Answer.{unless}
 use Rattle.frame.specs.Frames.{Entry}
-use Rattle.frame.specs.Packet.{good}
 use Rattle.difference.specs.declared.Difference.{Difference}
-use Rattle.compare.specs.declared.Compared.{Compared}
 use Rattle.compare.specs.declared.Compared.TheVariants.{Differences, Refused}
-use Rattle.difference.specs.Differences.{senders, fields, whole_block, only_first, only_second, where_unequal}
-use Rattle.compare.specs.Differences.{Content, typed, bytes, contents, blocks_from, differences}
+use Rattle.difference.specs.Differences.{senders, whole_block, where_unequal}
+use Rattle.compare.specs.Differences.{contents, blocks_from, differences}
 use Rattle.difference.specs.Numbers.{numbers_of}
 use Rattle.compare.specs.Answer.{with_differences}
-use Rattle.compare.specs.Laws.{IsDifference, sender_differs, field_differs, block_differs, first_only, second_only, Stands, Listed, ListedExactly}
+use Rattle.compare.specs.Laws.{IsDifference, sender_differs, field_differs, block_differs, first_only, second_only, Listed, ListedExactly}
 use Rattle.compare.proofs.Members.{In, in_either, in_front, in_back, entry_is, in_at, at_in, ordered_at}
 use Rattle.compare.proofs.Sound.{Diff, field_at, block_at, first_at, second_at, in_unequal, blocks_in_lem, ordered_all}
 use Rattle.compare.proofs.Complete.{unequal_in, blocks_has}

@@ -1,23 +1,21 @@
 -- Two blocks by their bytes: the cases of comparing them. Assumes nothing.
-use Prim.Native.Nat.{ℕ, zero, suc, ◌+◌, ◌*◌, ◌<◌, ◌≤◌}
+use Prim.Native.Nat.{ℕ, ◌+◌, ◌*◌, ◌<◌, ◌≤◌}
 use mathlib.Core.Path.{◌≡◌, refl, sym, ap, ap₂, ◌∙◌}
 use mathlib.Core.Bool.{Bool, true, false, cond, ◌&&◌}
 use mathlib.Core.List.{List, [], ◌∷◌}
 use native.Mathlib.Omega.{arith}
-use borrow.Author.Tests.{eqb-true, eq-eqb, ne_eqb}
+use borrow.Author.Tests.{eq-eqb, ne_eqb}
 use lib.Dec.{eqb}
 use lib.ListN.{length, get_or, drop, length-drop}
-use lib.Seq.{drop-cons}
-use Rattle.refusal.specs.Answer.{unless}
 use Rattle.refusal.proofs.Tests.{and_left, and_right}
-use Rattle.wire.specs.BigEndian.{be16, u16_at}
+use Rattle.wire.specs.BigEndian.{be16}
 use Rattle.wire.proofs.Numbers.{u16_inside}
 use Rattle.block.specs.Reading.{read_bytes}
 use Rattle.verdict.specs.Sources.{typed_by}
 use Rattle.difference.specs.declared.Difference.{Difference}
 use Rattle.difference.specs.Differences.{whole_block, only_first, only_second, fields_from}
 use Rattle.difference.specs.Places.{values_in, field_differences}
-use Rattle.compare.specs.Differences.{Content, typed, bytes, same_numbers, between}
+use Rattle.compare.specs.Differences.{same_numbers, between}
 use Rattle.compare.specs.Steps.{Whole, content_by, content_in, block_differences}
 use Rattle.compare.proofs.Nothing.{same_bytes, between_self}
 

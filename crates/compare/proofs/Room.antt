@@ -1,7 +1,7 @@
 -- How many differences there can be: at most three for every eight bytes of the packet with more blocks. `RoomEnough` of
 -- specs/Laws.antt. Assumes nothing.
-use Prim.Native.Nat.{ℕ, zero, suc, ◌+◌, ◌*◌, ◌<◌, ◌≤◌}
-use mathlib.Core.Path.{◌≡◌, refl, sym, ap, ◌∙◌}
+use Prim.Native.Nat.{ℕ, suc, ◌+◌, ◌*◌, ◌≤◌}
+use mathlib.Core.Path.{◌≡◌, refl}
 use mathlib.Core.Bool.{Bool, true, false, cond}
 use mathlib.Core.List.{List, [], ◌∷◌, ◌++◌}
 use native.Mathlib.Omega.{arith}
@@ -13,7 +13,7 @@ use Rattle.block.specs.declared.Block.{Block}
 use Rattle.block.specs.declared.BlockRead.{BlockRead}
 use Rattle.block.specs.declared.BlockRead.TheVariants.{Typed, Rle, Unknown, Dropped}
 use Rattle.block.proofs.Cases.{typed_answers}
-use Rattle.frame.specs.Frames.{Entry, next_at, body_length, entry_at, first_block}
+use Rattle.frame.specs.Frames.{Entry, next_at, entry_at, first_block}
 use Rattle.frame.specs.Packet.{Packet, good, bad, packet_of}
 use Rattle.frame.specs.Laws.{Fill}
 use Rattle.frame.proofs.Filling.{fill_up}

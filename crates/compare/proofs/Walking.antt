@@ -1,19 +1,18 @@
 -- The walk over both packets, as plain lists and numbers: its invariant, start, turn and end. Assumes nothing.
-use Prim.Native.Nat.{ℕ, zero, suc, ◌+◌, ◌-◌, ◌*◌, ◌<◌, ◌≤◌}
+use Prim.Native.Nat.{ℕ, suc, ◌+◌, ◌*◌, ◌<◌, ◌≤◌}
 use mathlib.Core.Path.{◌≡◌, refl, sym, ap, ap₂, ◌∙◌}
 use mathlib.Core.Logic.{◌⊎◌, inl, inr}
-use mathlib.Core.Bool.{Bool, true, false, cond, ◌||◌}
+use mathlib.Core.Bool.{Bool, true, false, ◌||◌}
 use mathlib.Core.List.{List, [], ◌∷◌, ◌++◌, append-nil, append_assoc}
 use native.Mathlib.Omega.{arith}
 use native.Mathlib.Decide.{dec_lt}
 use native.Mathlib.Numerals.{add-one}
 use borrow.Author.Tests.{ltb-true, ltb-false}
-use lib.Dec.{eqb, ltb}
-use lib.ListN.{length, get_or, take, drop, length-append}
+use lib.Dec.{ltb}
+use lib.ListN.{length, get_or, drop, length-append}
 use lib.Seq.{get_or-take, get_or-drop}
 use Rattle.wire.specs.BigEndian.{be16, u16_at, u32_at}
 use Rattle.wire.proofs.Numbers.{u16_inside, u32_inside}
-use Rattle.block.specs.Reading.{read_bytes}
 use Rattle.block.specs.declared.BlockRead.{BlockRead}
 use Rattle.block.specs.declared.BlockRead.TheVariants.{Typed, Rle, Unknown, Dropped}
 use Rattle.frame.specs.Frames.{Entry, whole, body_length, next_at, entry_at, block_at, frames_in, first_block}
@@ -24,7 +23,7 @@ use Rattle.frame.specs.declared.Extent.TheVariants.{Whole as Extent-as-Whole}
 use Rattle.frame.proofs.FirstBytes.{head_facts}
 use Rattle.frame.proofs.Filling.{packet_exactly}
 use Rattle.frame.proofs.Numbering.{packet_frames}
-use Rattle.packet.specs.Blocks.{read_alone, measured, read_in}
+use Rattle.packet.specs.Blocks.{measured, read_in}
 use Rattle.packet.proofs.Measuring.{read_at}
 use Rattle.verdict.specs.Verdict.{is_typed}
 use Rattle.verdict.specs.Sources.{member, typed_by}
@@ -34,7 +33,7 @@ use Rattle.difference.specs.Differences.{senders, where_unequal, only_first, onl
 use Rattle.difference.specs.Numbers.{Adds}
 use Rattle.difference.proofs.Writing.{adds_none, adds_both}
 use Rattle.difference.proofs.Places.{fields_are}
-use Rattle.compare.specs.Differences.{Content, typed, bytes, content_of, contents, between, only_seconds, blocks_from}
+use Rattle.compare.specs.Differences.{typed, bytes, content_of, contents, between, only_seconds, blocks_from}
 use Rattle.compare.specs.Answer.{differences_of}
 use Rattle.compare.specs.Steps.{Whole, Blocks, content_by, content_in, block_differences, Ready}
 use Rattle.compare.proofs.Contents.{typed_alone}

@@ -1,6 +1,6 @@
 -- What comparing two packets answers, and the lent list afterwards: document 02, ticket 1. "It gives the number of entries and
 -- fills a lent list of 32-bit numbers, five an entry." "Refusals: 1 to 6, first packet before second, then 8."
-use Rattle.std.specs.Prelude.{ℕ, ◌*◌, List, [], ◌∷◌, ◌++◌, leb, length, drop}
+use Rattle.std.specs.Prelude.{ℕ, ◌*◌, List, [], ◌++◌, leb, length, drop}
 use Rattle.refusal.specs.Table.{buffer_short}
 use Rattle.refusal.specs.Answer.{unless}
 use Rattle.frame.specs.Packet.{Packet, good, bad}

@@ -1,6 +1,6 @@
 -- The differences of two packets: document 02, ticket 1. "Add a tool that lists every differing field of their two packets,
 -- blocks paired by index." Each packet is its sender and what is compared of each of its blocks.
-use Rattle.std.specs.Prelude.{ℕ, zero, suc, Bool, true, false, cond, ◌&&◌, List, [], ◌∷◌, ◌++◌, eqb}
+use Rattle.std.specs.Prelude.{ℕ, suc, Bool, true, false, cond, ◌&&◌, List, [], ◌∷◌, ◌++◌, eqb}
 use Rattle.block.specs.Fields.{fields_of}
 use Rattle.block.specs.declared.BlockRead.{BlockRead}
 use Rattle.block.specs.declared.BlockRead.TheVariants.{Typed, Rle, Unknown, Dropped}

@@ -1,10 +1,10 @@
 -- What callers may lean on, as statements about the definitions that the call promises. Proved in proofs/.
-use Rattle.std.specs.Prelude.{ℕ, ◌+◌, ◌*◌, ◌/◌, ◌<◌, ◌≤◌, ◌≡◌, ◌↔◌, ◌⊎◌, cond, List, [], ◌∷◌, map, eqb, length, get_or}
+use Rattle.std.specs.Prelude.{ℕ, ◌+◌, ◌*◌, ◌<◌, ◌≤◌, ◌≡◌, ◌↔◌, ◌⊎◌, cond, List, [], map, eqb, length, get_or}
 use Rattle.block.specs.Fields.{fields_of}
 use Rattle.block.specs.declared.Block.{Block}
 use Rattle.block.specs.declared.BlockRead.TheVariants.{Typed}
 use Rattle.frame.specs.Frames.{Entry}
-use Rattle.frame.specs.Packet.{Packet, good, bad, one, numbered, packet_of}
+use Rattle.frame.specs.Packet.{Packet, good, one, numbered, packet_of}
 use Rattle.packet.specs.Blocks.{read_in}
 use Rattle.packet.specs.Reserved.{cleared_all}
 use Rattle.difference.specs.declared.Difference.{Difference}

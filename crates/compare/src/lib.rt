@@ -1,6 +1,7 @@
 // Two report packets compared, block by block: document 02, ticket 1. D4 is judged in each packet by a table of its measured
 // sources. A list of no numbers only counts, so one walk over both packets serves to count the differences and to list them.
 #![tactic(auto)]
+
 ghost use Rattle.std.specs.Prelude.{◌≡◌, true, [], ◌∷◌, ◌≤◌, length, get_or};
 ghost use Rattle.sorting.specs.Order.{Sorted};
 ghost use Rattle.frame.specs.Packet.{packet_of};

@@ -1,7 +1,7 @@
 -- The walk over one packet that gathers its measured sources, as plain lists and numbers: its start, a turn, its end and a
 -- block that runs past the end. Assumes nothing.
 use Prim.Native.Nat.{ℕ, ◌+◌, ◌*◌, ◌<◌, ◌≤◌}
-use mathlib.Core.Path.{◌≡◌, refl, sym, ap, ◌∙◌}
+use mathlib.Core.Path.{◌≡◌, refl, ap, ◌∙◌}
 use mathlib.Core.Bool.{Bool, true, false, ◌&&◌, ◌||◌}
 use mathlib.Core.List.{List, [], ◌∷◌, ◌++◌}
 use native.Mathlib.Omega.{arith}
@@ -15,7 +15,7 @@ use Rattle.block.specs.Reading.{read_bytes, measures_of}
 use Rattle.block.specs.declared.Measures.{Measures}
 use Rattle.block.specs.declared.Measures.TheVariants.{Source, Nothing}
 use Rattle.block.proofs.Reasons.{measures_nothing}
-use Rattle.frame.specs.Frames.{Entry, whole, past, next_at, entry_at, block_at, first_block, frames_of}
+use Rattle.frame.specs.Frames.{whole, past, next_at, entry_at, block_at, first_block, frames_of}
 use Rattle.frame.proofs.Blocks.{no_block, block_bytes_lem, block_next}
 use Rattle.frame.proofs.Filling.{fill_append, full, blocks_past}
 use Rattle.packet.specs.Blocks.{read_alone, measured}

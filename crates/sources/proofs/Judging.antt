@@ -8,7 +8,7 @@ use native.Mathlib.Omega.{arith}
 use lib.ListN.{length}
 use Rattle.refusal.specs.Table.{block_past_end}
 use Rattle.refusal.specs.declared.Refusal.{Refusal}
-use Rattle.frame.specs.Frames.{Entry, past, first_block, frames_in, frames_of}
+use Rattle.frame.specs.Frames.{Entry, past, first_block, frames_of}
 use Rattle.frame.specs.Packet.{Packet, good, bad, header_of, of_frames, packet_in, packet_of}
 use Rattle.frame.specs.declared.Extent.TheVariants.{Whole}
 use Rattle.frame.specs.declared.Header.TheVariants.{Refused as Header-as-Refused}

@@ -1,6 +1,7 @@
 // The measured sources of two packets, as two sorted tables, with both packets judged on the way. A walk waits on each
 // block's length before it knows the next place; the two packets are walked side by side, so that the two waits are one.
 #![tactic(auto)]
+
 ghost use Rattle.std.specs.Prelude.{◌≡◌, ◌≤◌, length};
 ghost use Rattle.frame.specs.Frames.{first_block};
 ghost use Rattle.frame.specs.Packet.{packet_of};

@@ -3,6 +3,7 @@
 // list is the only room: while it is filled, its first half holds the table, and its second half one number for each
 // block, place and verdict packed.
 #![tactic(auto)]
+
 ghost use Rattle.std.specs.Prelude.{◌≡◌, ◌&&◌, ◌++◌, ◌+◌, ◌*◌, ◌/◌, ◌%◌, ◌≤◌, eqb, length, take, drop};
 ghost use Rattle.refusal.specs.Answer.{after};
 ghost use Rattle.wire.specs.BigEndian.{u32_at};

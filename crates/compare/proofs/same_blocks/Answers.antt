@@ -1,5 +1,5 @@
 -- `compare::same_blocks` meets its contract: what is left of the blocks is the same exactly where all of them is, a word a turn. Assumes nothing.
-use Prim.Native.Nat.{◌+◌, ◌-◌, ◌≤◌}
+use Prim.Native.Nat.{◌+◌, ◌≤◌}
 use mathlib.Core.Path.{refl, sym, ◌∙◌}
 use native.Mathlib.Omega.{arith}
 use lib.ListN.{length}

@@ -1,5 +1,4 @@
 -- `compare::same_tables` meets its contract: what is left of the tables is the same exactly where all of them is. Assumes nothing.
-use Prim.Native.Nat.{◌-◌}
 use mathlib.Core.Path.{refl, sym, ◌∙◌}
 use native.Mathlib.Omega.{arith}
 use Rattle.compare.proofs.Same.{same_long, same_on, same_off, same_end}

@@ -6,11 +6,10 @@ use Rattle.sources.proofs.Judging.{head_refused, first_bad_lem, second_bad}
 use Rattle.sources.proofs.of_two.Goals as goal
 
 pub of_headed-requires : goal.of_headed-requires
-of_headed-requires c =
-    (
-      record { sender = _; size = _; header = sym c.read_header-in-Sender.ensures ∙ c.in-Sender-read_header.is },
-      record { sender = _; size = _; header = sym c.read_header.ensures ∙ c.in-Sender.is },
-    )
+of_headed-requires c = (
+  record { sender = _; size = _; header = sym c.read_header-in-Sender.ensures ∙ c.in-Sender-read_header.is },
+  record { sender = _; size = _; header = sym c.read_header.ensures ∙ c.in-Sender.is },
+)
 
 pub returns-in-Refused-read_header : goal.returns-in-Refused-read_header
 returns-in-Refused-read_header c = first_bad_lem _ _ _ _ _ (head_refused _ _ (sym c.read_header-in-Sender.ensures ∙ c.in-Refused-read_header.is))

@@ -16,7 +16,7 @@ use Rattle.survey.proofs.list.Goals as goal
 pub returns-then-out-count : goal.returns-then-out-count
 returns-then-out-count c =
     let ready : Here Whole c.args.packet.now 0 c.in-Good.field-0 c.in-Good.count c.in-Good.field-2 = located _ _ 0 _ _ _ (sym c.locate.ensures ∙ c.in-Good.is) in
-    let told = list_short _ _ _ _ _ ready (omega (arith, c.if-out-count.true)) in record { answer = told.0; buffer = told.1; }
+    let told = list_short _ _ _ _ _ ready (omega (arith, c.if-out-count.true)) in record { answer = told.0; buffer = told.1 }
 
 pub mark-k-requires : goal.mark-k-requires
 mark-k-requires c =
@@ -51,7 +51,7 @@ returns-else-out-count c =
     let told = list_done _ _ _ _ _ ready _ room.fits
     (c.spread.ensures ∙ spread_all c.args.packet.now c.args.out.now _ _ room.counted
     (c.settle.ensures ∙ ap (λ (l : List ℕ). packing (blocks_of c.args.packet.now) (blocks_of c.args.packet.now) ++ l)
-    (past_sorted _ _ _ _ _ room c.mark-k.auto.out c.mark-k.ensures _ c.sort.ensures.sorted c.sort.ensures.permuted))) in record { answer = told.0; buffer = told.1; }
+    (past_sorted _ _ _ _ _ room c.mark-k.auto.out c.mark-k.ensures _ c.sort.ensures.sorted c.sort.ensures.permuted))) in record { answer = told.0; buffer = told.1 }
 
 pub returns-in-Refused : goal.returns-in-Refused
-returns-in-Refused c = let told = list_refused _ _ _ (located_bad _ _ 0 _ (sym c.locate.ensures ∙ c.in-Refused.is)) in record { answer = told.0; buffer = told.1; }
+returns-in-Refused c = let told = list_refused _ _ _ (located_bad _ _ 0 _ (sym c.locate.ensures ∙ c.in-Refused.is)) in record { answer = told.0; buffer = told.1 }

@@ -1,5 +1,5 @@
 -- `survey::settle` meets its contract. The loop's invariant is `Settle`. Assumes nothing.
-use Prim.Native.Nat.{◌-◌, ◌*◌, ◌<◌}
+use Prim.Native.Nat.{◌*◌, ◌<◌}
 use mathlib.Core.Path.{sym, ◌∙◌}
 use native.Mathlib.Omega.{arith}
 use Rattle.survey.proofs.Settling.{settle_start, settle_table, settle_on, settle_back, settle_left, settle_enough, settle_end}
@@ -55,8 +55,9 @@ loop-i-preserved c =
     let more : c.loop-i.i < 2 * c.args.count = omega arith in
     settle_on _ _ _ _ c.requires _ _ c.loop-i.invariant more _
     (elim c.if-is_measured.branch [
-      then-is_measured w ↦ w.out-is ∙ settle_back _ _ _ _ c.requires _ _ c.loop-i.invariant more (sym c.is_measured.ensures ∙ w.if-is_measured.true)
-    | else-is_measured w ↦ w.out-is ∙ settle_left _ _ _ _ c.requires _ _ c.loop-i.invariant more (sym c.is_measured.ensures ∙ w.if-is_measured.false) ])
+      | then-is_measured w ↦ w.out-is ∙ settle_back _ _ _ _ c.requires _ _ c.loop-i.invariant more (sym c.is_measured.ensures ∙ w.if-is_measured.true)
+      | else-is_measured w ↦ w.out-is ∙ settle_left _ _ _ _ c.requires _ _ c.loop-i.invariant more (sym c.is_measured.ensures ∙ w.if-is_measured.false)
+    ])
 
 pub shape_of-out : goal.shape_of-out
 shape_of-out c = c.loop-i.invariant.long

@@ -1,5 +1,4 @@
 -- `survey::spread` meets its contract. The loop's invariant is `Spread`. Assumes nothing.
-use Prim.Native.Nat.{◌-◌}
 use native.Mathlib.Omega.{arith}
 use lib.ListN.{length-set}
 use Rattle.survey.proofs.Spreading.{spread_start, spread_on, spread_end}
