@@ -1,5 +1,6 @@
 // One block at the boundary to C: what reading it came to, its fields as thirteen numbers with an order by type.
 #![tactic(auto)]
+
 ghost use Rattle.std.specs.Prelude.{◌≡◌};
 ghost use Rattle.block.specs.Reading.{read_block};
 ghost use Rattle.block.specs.declared.Block.TheVariants.{Measured, Streams};
