@@ -1,5 +1,6 @@
 // Effective loss and the resend plan at the boundary to C, with what they count as an event's number.
 #![tactic(auto)]
+
 ghost use Rattle.std.specs.Prelude.{◌≡◌, length, take};
 ghost use Rattle.trace.specs.declared.Event.{Event};
 ghost use Rattle.trace.specs.declared.EventRead.TheVariants.{Known};

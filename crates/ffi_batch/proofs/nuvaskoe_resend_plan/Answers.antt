@@ -6,7 +6,7 @@ use Rattle.ffi_batch.proofs.nuvaskoe_resend_plan.Goals as goal
 pub returns-in-Known : goal.returns-in-Known
 returns-in-Known c =
     let told = plan_known _ _ _ _ _ _ _ _ _ (sym c.event_in.ensures ∙ c.in-Known.is) c.plan.ensures.answer c.plan.ensures.buffer
-    c.plan.ensures.best c.marks_out.ensures in record { answer = told.0; buffer = told.1.0; best = told.1.1.0; count = told.1.1.1; }
+    c.plan.ensures.best c.marks_out.ensures in record { answer = told.0; buffer = told.1.0; best = told.1.1.0; count = told.1.1.1 }
 
 pub returns-in-Unknown : goal.returns-in-Unknown
-returns-in-Unknown c = plan_unknown _ _ _ _ _ _ (sym c.event_in.ensures ∙ c.in-Unknown.is) c.marks_out-in let told = -Unknown.ensures in record { answer = told.0; buffer = told.1.0; best = told.1.1.0; count = told.1.1.1; }
+returns-in-Unknown c = let told = plan_unknown _ _ _ _ _ _ (sym c.event_in.ensures ∙ c.in-Unknown.is) c.marks_out-in-Unknown.ensures in record { answer = told.0; buffer = told.1.0; best = told.1.1.0; count = told.1.1.1 }
