@@ -1,6 +1,7 @@
 // Effective loss: document 002 and document 01, "Effective loss". Batches are all runs of B consecutive packets;
 // the answer says how many of them hold more than T losses, and which is the first. A loss is what the event counts.
 #![tactic(auto)]
+
 ghost use Rattle.std.specs.Prelude.{◌≡◌, ℕ, ◌+◌, ◌-◌, ◌<◌, ◌≤◌, min, length};
 ghost use Rattle.trace.specs.Sum.{count};
 ghost use Rattle.trace.specs.Trace.{counted_at, judged, trace_max};

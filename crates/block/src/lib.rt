@@ -1,6 +1,7 @@
 // The five typed blocks, Loss RLE, and one block read by itself: document 01, "The packet". A reader takes the body of
 // a block, the words after its first, of any size, and answers typed, Loss RLE, unknown, or dropped with its reason.
 #![tactic(auto)]
+
 ghost use Rattle.std.specs.Prelude.{◌≡◌};
 ghost use Rattle.block.specs.Layouts.{covered};
 ghost use Rattle.block.specs.Reading.{rate_good, rates_good, flag_good, summary_good, summary_read, read_measurement, read_loss, read_discard, read_effective, read_streams, read_rle, read_block, read_bytes, needs_of, measures_of};

@@ -1,6 +1,7 @@
 // The chunks of a Loss RLE block: RFC 3611, section 4.1. The lost packets are counted by the lengths of runs and the ones of
 // vectors, and no packet looked at by itself.
 #![tactic(auto)]
+
 ghost use Rattle.std.specs.Prelude.{◌≡◌, ◌+◌, ◌*◌, ◌<◌, ◌≤◌, min, length, take, drop};
 ghost use Rattle.wire.specs.BigEndian.{be16};
 ghost use Rattle.chunk.specs.Chunks.{packets_of, covers, lost_in, chunks_in};

@@ -2,6 +2,7 @@
 // ticket 1. A block's fields are read from its own bytes, by their places (specs/Places.antt, the diagrams of crate block).
 // An entry is counted in any case, and written where the list has room for it.
 #![tactic(auto)]
+
 ghost use Rattle.std.specs.Prelude.{◌≡◌, [], ◌∷◌, ◌≤◌, length};
 ghost use Rattle.block.specs.Types.{measurement_type, loss_type, discard_type, effective_type, streams_type};
 ghost use Rattle.difference.specs.Numbers.{Adds};

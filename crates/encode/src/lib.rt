@@ -1,6 +1,7 @@
 // A typed block as bytes: document 01, "Writing". Every kind is a row of 32-bit words, the rows of the diagrams
 // in crate block, so a block is made as words and one loop stores them. Reserved bits are zero.
 #![tactic(auto)]
+
 ghost use Rattle.std.specs.Prelude.{◌≡◌};
 ghost use Rattle.wire.specs.BigEndian.{placed};
 ghost use Rattle.block.specs.declared.Block.TheVariants.{Measured, Loss, Discard, Effective, Streams};

@@ -1,5 +1,6 @@
 // Packed traces at the boundary to C: packing and unpacking, and effective loss and the resend plan of words.
 #![tactic(auto)]
+
 ghost use Rattle.std.specs.Prelude.{◌≡◌, take};
 ghost use Rattle.refusal.specs.Answer.{after};
 ghost use Rattle.trace.specs.Events.{event_in};

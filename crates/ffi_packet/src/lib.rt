@@ -1,5 +1,6 @@
 // Report packets read at the boundary to C.
 #![tactic(auto)]
+
 ghost use Rattle.std.specs.Prelude.{◌≡◌};
 ghost use Rattle.refusal.specs.Answer.{after};
 ghost use Rattle.frame.specs.Packet.{packet_of};

@@ -1,5 +1,6 @@
 // The front panel at the boundary to C: each needle as two numbers.
 #![tactic(auto)]
+
 ghost use Rattle.std.specs.Prelude.{◌≡◌};
 ghost use Rattle.block.specs.declared.Block.TheVariants.{Loss, Discard};
 ghost use Rattle.frame.specs.Packet.{packet_of};

@@ -14,6 +14,7 @@
 //  :             type-specific block contents                      :
 //  +-+-+-+-+-+-+-+-+-+-+-+-+-+-+-+-+-+-+-+-+-+-+-+-+-+-+-+-+-+-+-+-+
 #![tactic(auto)]
+
 ghost use Rattle.std.specs.Prelude.{◌≡◌, ◌+◌, ◌<◌, min, length};
 ghost use Rattle.frame.specs.Frames.{next_at, block_at, start_at, frames_in};
 ghost use Rattle.frame.specs.Packet.{size_fits, header_of, packet_in, walked_of, located_of};

@@ -7,6 +7,7 @@
 //
 // The bits of the last needed word that are past the end are zero. Words behind it are neither read nor changed.
 #![tactic(auto)]
+
 ghost use Rattle.std.specs.Prelude.{◌≡◌, min, take};
 ghost use Rattle.trace.specs.Sum.{bit, count};
 ghost use Rattle.packed.specs.Words.{word_bits, one_at, one_in, words_for, number_of};

@@ -1,6 +1,7 @@
 // The resend plan of a packed trace: document 02, ticket 6. It is the plan of the byte form, still written a byte a packet. A word
 // that could not take the count over the threshold even if nothing left is written in one step, any other packet by packet.
 #![tactic(auto)]
+
 ghost use Rattle.std.specs.Prelude.{◌≡◌, ◌++◌, ℕ, ◌+◌, ◌-◌, ◌<◌, ◌≤◌, min, length, get_or, drop};
 ghost use Rattle.trace.specs.Sum.{sum, bit, count};
 ghost use Rattle.trace.specs.Trace.{trace_max};

@@ -1,6 +1,7 @@
 // One report packet read: document 01, "The packet". Every call judges the whole packet first, then answers
 // from its list of blocks.
 #![tactic(auto)]
+
 ghost use Rattle.std.specs.Prelude.{◌≡◌, ◌+◌};
 ghost use Rattle.block.specs.Reading.{read_bytes, measures_of};
 ghost use Rattle.frame.specs.Packet.{packet_of};

@@ -1,6 +1,7 @@
 // A trace read out of the chunks of a Loss RLE block: RFC 3611, section 4.1. Runs are filled. A whole vector is put eight
 // packets at a time, and one that the end cuts off bit by bit.
 #![tactic(auto)]
+
 ghost use Rattle.std.specs.Prelude.{◌≡◌, ◌++◌, ◌+◌, ◌-◌, ◌≤◌, min, length, take, drop, replicate};
 ghost use Rattle.wire.specs.BigEndian.{placed};
 ghost use Rattle.chunk.specs.Chunks.{vector_bits, vector_of, packets_of, packets_in, chunks_in};

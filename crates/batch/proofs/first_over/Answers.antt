@@ -9,7 +9,7 @@ use Rattle.batch.proofs.Loops.{under_first, under_more, under_next, under_small,
 use Rattle.batch.proofs.first_over.Goals as goal
 
 pub returns-then-threshold-losses : goal.returns-then-threshold-losses
-returns-then-threshold-losses c = let told = handed_here _ _ _ _ 0 _ (omega arith) c.first_losses-losses.ensures (omega arith) (λ j l. absurd (omega arith)) in record { first = told.0; losses = told.1; }
+returns-then-threshold-losses c = let told = handed_here _ _ _ _ 0 _ (omega arith) c.first_losses-losses.ensures (omega arith) (λ j l. absurd (omega arith)) in record { first = told.0; losses = told.1 }
 
 pub batches-init : goal.batches-init
 batches-init c = (under_first _ _ _ _ _ _ (omega arith) c.first_losses-losses.ensures (omega arith), refl)
@@ -45,9 +45,9 @@ loop-start-preserved c =
     (under_next _ _ _ _ _ _ _ inv.0 _ (omega arith) moved.value (omega arith), inv.1, omega arith)
 
 pub returns-after-batches : goal.returns-after-batches
-returns-after-batches c = let told = handed_none _ _ _ _ _ _ c.batches.invariant.0 _ c.batches.invariant.1 (omega arith) in record { first = told.0; losses = told.1; }
+returns-after-batches c = let told = handed_none _ _ _ _ _ _ c.batches.invariant.0 _ c.batches.invariant.1 (omega arith) in record { first = told.0; losses = told.1 }
 
 pub returns-then-threshold-losses-2 : goal.returns-then-threshold-losses-2
 returns-then-threshold-losses-2 c =
     let moved : Slid (counted_at c.args.event c.args.s.now) c.args.batch c.loop-start.start 1 c.loop-start.losses c.counted.result c.counted-in-loop-start.result = slid_one _ _ _ _ c.loop-start.invariant.0.losses _ _ c.counted.ensures c.counted-in-loop-start.ensures in
-    let told = handed_next _ _ _ _ _ _ c.loop-start.invariant.0 _ (omega arith) moved.value (omega arith) in record { first = told.0; losses = told.1; }
+    let told = handed_next _ _ _ _ _ _ c.loop-start.invariant.0 _ (omega arith) moved.value (omega arith) in record { first = told.0; losses = told.1 }

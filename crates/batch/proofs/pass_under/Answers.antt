@@ -28,7 +28,7 @@ loop-start-preserved c =
     (under_more _ _ _ _ _ _ _ c.loop-start.invariant.0 _ _ (omega arith) moved.value (all_under _ _ _ _ _ (omega arith)), omega arith)
 
 pub returns-after-loop-start : goal.returns-after-loop-start
-returns-after-loop-start c = let told = passed _ _ _ _ _ _ _ c.loop-start.invariant in record { place = told.0; losses = told.1.0; under = told.1.1; }
+returns-after-loop-start c = let told = passed _ _ _ _ _ _ _ c.loop-start.invariant in record { place = told.0; losses = told.1.0; under = told.1.1 }
 
 pub returns-then-threshold-losses : goal.returns-then-threshold-losses
-returns-then-threshold-losses c = let told = passed _ _ _ _ _ _ _ c.loop-start.invariant in record { place = told.0; losses = told.1.0; under = told.1.1; }
+returns-then-threshold-losses c = let told = passed _ _ _ _ _ _ _ c.loop-start.invariant in record { place = told.0; losses = told.1.0; under = told.1.1 }

@@ -4,4 +4,4 @@ use Rattle.ffi_answer.specs.Answers.{written_out}
 use Rattle.ffi_packet.proofs.nuvaskoe_packet_list.Goals as goal
 
 pub returns : goal.returns
-returns c = let l = c.list in record { answer = c.written_out.ensures ∙ ap written_out l.ensures.answer; buffer = l.ensures.buffer; }
+returns c = let l = c.list in record { answer = c.written_out.ensures ∙ ap written_out l.ensures.answer; buffer = l.ensures.buffer }

@@ -30,4 +30,4 @@ returns c =
     let size : c.body_part-part.result.length ≡ length (body_of (packet_of c.args.packet.now) c.args.index) = ap (λ (p : Part). p.length) c.body_part-part.ensures in
     let is : PartIs c.args.packet.now c.args.index = part_is _ _ in
     let length-is : c.body_part-part.result.start + c.body_part-part.result.length - c.body_part-part.result.start ≡ c.body_part-part.result.length = omega arith in
-    let s = c.args.packet.now in record { part = ap (λ (n : ℕ). take n (drop c.body_part-part.result.start s)) (length-is ∙ size) ∙ ap (λ (n : ℕ). take (length (body_of (packet_of s) c.args.index)) (drop n s)) start ∙ is.body; place = (refl, omega (arith, start)); }
+    let s = c.args.packet.now in record { part = ap (λ (n : ℕ). take n (drop c.body_part-part.result.start s)) (length-is ∙ size) ∙ ap (λ (n : ℕ). take (length (body_of (packet_of s) c.args.index)) (drop n s)) start ∙ is.body; place = (refl, omega (arith, start)) }

@@ -25,4 +25,4 @@ pub returns : goal.returns
 returns c =
     let args = c.args in
     let end : c.nearer-end.result ≡ min args.packets (length args.out.now) = c.nearer-end.ensures in
-    let told = reading_all _ _ _ _ _ _ c.loop-i.invariant (omega arith) in record { answer = rw (← end) told.0; buffer = rw (← end) told.1; }
+    let told = reading_all _ _ _ _ _ _ c.loop-i.invariant (omega arith) in record { answer = rw (← end) told.0; buffer = rw (← end) told.1 }
