@@ -1,5 +1,5 @@
 -- `batch::first_over` meets its contract. The invariant of both loops is `Under`, from the first batch on. Assumes nothing.
-use Prim.Native.Nat.{◌-◌, ◌≤◌}
+use Prim.Native.Nat.{◌≤◌}
 use mathlib.Core.Path.{refl}
 use native.Mathlib.Omega.{arith}
 use Rattle.trace.specs.Trace.{counted_at}

@@ -1,5 +1,5 @@
 -- `batch::losses_among` meets its contract: so few losses fit a byte. The loop's invariant is `Part`. Assumes nothing.
-use Prim.Native.Nat.{◌-◌, ◌≤◌}
+use Prim.Native.Nat.{◌≤◌}
 use native.Mathlib.Omega.{arith}
 use Rattle.trace.proofs.Sums.{bit_le}
 use Rattle.batch.proofs.Loops.{part_none, part_more, part_small, part_all}

@@ -1,5 +1,4 @@
 -- `batch::pass_under` meets its contract. The loop's invariant is `Under`. Assumes nothing.
-use Prim.Native.Nat.{◌-◌}
 use native.Mathlib.Omega.{arith}
 use Rattle.trace.specs.Trace.{counted_at}
 use Rattle.batch.specs.Stride.{stride}

@@ -1,7 +1,6 @@
 -- `chunk::all_null` meets its contract. Assumes nothing.
 use mathlib.Core.Path.{refl}
 use Rattle.chunk.proofs.Counting.{null_so_far, null_all}
-use Prim.Native.Nat.{◌-◌}
 use native.Mathlib.Omega.{arith}
 use Rattle.chunk.proofs.all_null.Goals as goal
 

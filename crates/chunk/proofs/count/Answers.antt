@@ -3,7 +3,6 @@ use Prim.Native.Nat.{ℕ}
 use mathlib.Core.Path.{◌≡◌, ap}
 use lib.ListN.{drop}
 use Rattle.chunk.specs.Chunks.{covers, chunks_in}
-use Prim.Native.Nat.{◌-◌}
 use mathlib.Core.Path.{sym, ◌∙◌}
 use native.Mathlib.Omega.{arith}
 use Rattle.chunk.proofs.Counting.{counting_none, counting_bad, counting_more, counting_done}

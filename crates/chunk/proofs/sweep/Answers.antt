@@ -1,6 +1,5 @@
 -- `chunk::sweep` meets its contract. The loop's invariant is `Sweeping`. Assumes nothing.
 use Rattle.chunk.proofs.Sweeping.{sweeping_none, sweeping_more, sweeping_few, sweeping_all}
-use Prim.Native.Nat.{◌-◌}
 use native.Mathlib.Omega.{arith}
 use lib.Count.{ones-le}
 use Rattle.chunk.proofs.sweep.Goals as goal

@@ -1,5 +1,4 @@
 -- `encode::write` meets its contract. The loop's invariant is `Stored`. Assumes nothing.
-use Prim.Native.Nat.{◌-◌}
 use native.Mathlib.Omega.{arith}
 use Rattle.encode.proofs.Storing.{few, no_room, stored_none, stored_length, stored_more, stored_all}
 use Rattle.encode.proofs.write.Goals as goal

@@ -1,6 +1,5 @@
 -- `frame::walk` meets its contract. The loop's invariant is `Walk`. Assumes nothing.
-use Prim.Native.Nat.{◌-◌}
-use mathlib.Core.Logic.{inl, inr, ⊎_elim}
+use mathlib.Core.Logic.{inl, inr}
 use native.Mathlib.Omega.{arith}
 use Rattle.frame.proofs.Walking.{walk_start, walk_past, walk_on, walk_end}
 use Rattle.frame.proofs.walk.Goals.{then-count-index, else-count-index}

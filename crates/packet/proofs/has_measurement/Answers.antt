@@ -1,5 +1,4 @@
 -- `packet::has_measurement` meets its contract. The loop's invariant is `Search`. Assumes nothing.
-use Prim.Native.Nat.{◌-◌}
 use native.Mathlib.Omega.{arith}
 use Rattle.frame.proofs.Blocks.{block_next}
 use Rattle.packet.proofs.Measuring.{search_start, search_fits, search_found, search_on, search_end}

@@ -1,6 +1,6 @@
 -- `unroll::put_bits` meets its contract. The loop's invariant is `Filling`. Assumes nothing.
 use lib.Bits.{bit_and, and_mask}
-use Prim.Native.Nat.{ℕ, ◌-◌, ◌%◌}
+use Prim.Native.Nat.{ℕ, ◌%◌}
 use mathlib.Core.Path.{◌≡◌}
 use native.Mathlib.Omega.{arith}
 use Rattle.chunk.specs.Chunks.{vector_bits}

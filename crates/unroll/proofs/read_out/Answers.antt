@@ -1,7 +1,7 @@
 -- `unroll::read_out` meets its contract. The loop's invariant is `ReadingOut`. Assumes nothing.
 use mathlib.Core.Path.{◌≡◌, ◌∙◌}
 use Rattle.wire.proofs.Numbers.{u16_inside}
-use Prim.Native.Nat.{◌-◌, min}
+use Prim.Native.Nat.{min}
 use native.Mathlib.Omega.{arith}
 use lib.ListN.{length}
 use Rattle.unroll.proofs.ReadingOut.{reading_none, reading_more, reading_all}
