@@ -4,7 +4,7 @@
 // that fails ends the program with its error.
 #![tactic(auto)]
 
-ghost use Rattle.std.specs.Prelude.{◌≡◌, ◌+◌, ◌≤◌, IfOk, length};
+ghost use Rattle.std.specs.Prelude.{◌≡◌, ◌+◌, ◌<◌, ◌≤◌, IfOk, OnErr, length};
 ghost use Rattle.frame.specs.Frames.{next_at, entry_at};
 ghost use Rattle.packet.specs.Blocks.{read_in};
 ghost use Rattle.packet.specs.Steps.{blocks_of};
@@ -92,10 +92,11 @@ fn judged(own: BlockRead, verdict: u32) -> BlockRead
     own
 }
 
-// Where the next line goes: the page is sent first if it has no room for a line.
+// Where the next line goes: the page is sent first if it has no room for a line, and only sending it can fail.
 fn make_room(rt: &impl Print, page: &[u8], end: usize) -> io::Result<usize>
     requires { (end ≤ length page.now) × (line_room ≤ length page.now) }
-    ensures { IfOk result (λ at. at + line_room ≤ length page.now) }
+    ensures ok { IfOk result (λ at. at + line_room ≤ length page.now) }
+    ensures err { OnErr result (length page.now < end + line_room) }
 {
     if page.len() - end < lines::LINE {
         send(rt, page, end)?;

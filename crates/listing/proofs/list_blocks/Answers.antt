@@ -26,7 +26,7 @@ bounds-table-k g c = omega (arith, walk_room _ _ _ _ c.loop-at.invariant.0 c.loo
 pub put_line-end-requires : goal.put_line-end-requires
 put_line-end-requires g c =
     let walk = c.loop-at.invariant.0 in
-    (walk_fits _ _ _ _ walk c.loop-at-test.true, walk_verdict _ _ _ _ walk c.loop-at-test.true, c.in_ok-end.ensures)
+    (walk_fits _ _ _ _ walk c.loop-at-test.true, walk_verdict _ _ _ _ walk c.loop-at-test.true, c.in_ok-end.ensures.ok)
 
 pub overflow_add-k-in-loop-at : goal.overflow_add-k-in-loop-at
 overflow_add-k-in-loop-at g c = omega (arith, walk_room _ _ _ _ c.loop-at.invariant.0 c.loop-at-test.true)
