@@ -36,5 +36,5 @@ grows n d i h small = rw (add-one i) (omega (arith, pow-suc 10 i))
 pub bounded : (n i : ℕ) → n < 10 ^ i → i ≤ 6 → n < 1000000
 bounded n i h few = omega (arith, pow-le-pow_right {n = 10} (omega arith) {i = i} {j = 6} few)
 
--- what the check looks at for `body::number_in`
-pub ruleset by_digits = (goes_on, too_low, too_high, ends, grows, bounded)
+-- what is tried at the goals of `body::number_in` that have no answer
+pub ruleset by_digits = (too_low, too_high, ends, bounded)
