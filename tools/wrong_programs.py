@@ -23,13 +23,13 @@ def names(page):
                 yield (rest, {crate}) if slash else (name, heading)
 
 
-def differences(page, edits, to_come=frozenset()):
-    """What page and edits, the latter pairs of a crate and a name, do not have in common, but for edits of crates that are still to come."""
+def differences(page, edits):
+    """What page and edits, the latter pairs of a crate and a name, do not have in common."""
     told, unnamed = [], set(edits)
     for name, crates in names(page):
         meant = {(crate, name) for crate in crates} & edits
         unnamed -= meant
-        if not meant and not crates & to_come:
+        if not meant:
             others = [crate for crate, other in sorted(edits) if other == name]
             told.append(f"{name}: no edit of {' or '.join(sorted(crates)) or 'any crate'}"
                         + (f", but of {' and '.join(others)}" if others else ""))
@@ -66,8 +66,6 @@ def try_out():
             and differences(page, edits) == []
             and differences(page, edits | {("a", "four")}) == ["crates/a/must-fail/four.edit: not named"]
             and differences(page, edits - {("a", "one")}) == ["one: no edit of a"]
-            and differences(page, edits - {("c", "three")}, {"c"}) == []
-            and differences(page, edits - {("a", "one")}, {"c"}) == ["one: no edit of a"]
             and differences(page, edits - {("b", "two")} | {("a", "two")})
             == ["two: no edit of b, but of a", "crates/a/must-fail/two.edit: not named"])
 
@@ -75,11 +73,7 @@ def try_out():
 if sys.argv[1:] == ["--try"]:
     sys.exit(None if try_out() else "wrong_programs.py: the small page came out wrong")
 paths = sorted(pathlib.Path("crates").glob("*/must-fail/*.edit"))
-# While the page PORTING-LEFT.md is there, the crates that it names and that have no folder are still to come.
-left = pathlib.Path("PORTING-LEFT.md")
-named = set(re.findall(r"\w+", left.read_text())) if left.exists() else set()
-to_come = {name for name in named if not pathlib.Path("crates", name).is_dir()}
-lines = differences(pathlib.Path("docs/PROMISES.md").read_text(), {(path.parts[1], path.stem) for path in paths}, to_come)
+lines = differences(pathlib.Path("docs/PROMISES.md").read_text(), {(path.parts[1], path.stem) for path in paths})
 for path in paths:
     lines += [f"{path}: {told}" for told in stale(path.read_text(), lambda file: (path.parents[1] / file).read_text())]
 print("\n".join(lines) or "every wrong program is named, every name is one, and what each replaces stands once")
