@@ -2,7 +2,7 @@
 # Makes target/staticlib/libnuvaskoe.a of crate nuvaskoe_c, which exports every call of the boundary.
 #
 #     tools/archive.sh              by `rt lib`, which proves what has changed of the crate and of those below it
-#     tools/archive.sh --after-ci   in the gate: over the libraries that `rt ci` has just proved and built
+#     tools/archive.sh --after-ci   in the gate, in a checkout that had no out/: over the libraries that `rt ci` has just proved and built
 #
 # `rt ci` proves a static library and makes no archive of it, and `rt lib` takes none of the libraries that `rt ci` built: in a new
 # clone it would prove them all again. So the gate has the compiler prove the crate once more and build it over those. Where some
