@@ -14,11 +14,11 @@ use Rattle.refusal.proofs.Tests.{and_left, and_right, both, passed}
 use Rattle.settings.specs.declared.Settings.{Settings}
 use Rattle.settings.specs.Ranges.{Limits, limits, in_range, within}
 use Rattle.settings.proofs.Bounds.{Between, between, all}
-use Rattle.card.specs.declared.CardRead.TheVariants.{Accepted, Refused}
 use Rattle.card.specs.Decimal.{all_digits, decimal}
 use Rattle.card.specs.Card.{check_min, check_max, card_length, field, settings_on, twenty_digits, check_right, read_card}
 use Rattle.card.specs.Steps.{Fits}
 use Rattle.card.specs.Laws.{FiveDigits}
+use Rattle.std.specs.Prelude.{Ok, Err}
 
 -- settings in range have room on a card, where the limits have
 pub in_range_fits : (l : Limits) → FiveDigits l → (s : Settings) → in_range l s ≡ true → Fits s
@@ -27,6 +27,9 @@ in_range_fits l f s h = let r = all l s h in omega arith
 -- today's have
 pub limits_fit : FiveDigits limits
 limits_fit = omega arith
+
+pub settings_fit : (s : Settings) → in_range limits s ≡ true → Fits s
+settings_fit s h = in_range_fits limits limits_fit s h
 
 -- what twenty digits are
 pub record Twenty (c : List ℕ) : Type 0 where
@@ -51,15 +54,15 @@ pub record Good (l : Limits) (c : List ℕ) (s : Settings) : Type 0 where
   pub range : in_range l s ≡ true
   pub same : settings_on c ≡ s
 
-refused : (r : Refusal) (s : Settings) → Refused r ≡ Accepted s → ⊥
+refused : (r : Refusal) (s : Settings) → Err r ≡ Ok s → ⊥
 refused r s e = let z : ◌≡◌ {A = ℕ} 0 1 = cc in omega arith
 
-pub good : (l : Limits) (c : List ℕ) (s : Settings) → read_card l c ≡ Accepted s → Good l c s
+pub good : (l : Limits) (c : List ℕ) (s : Settings) → read_card l c ≡ Ok s → Good l c s
 unfolding read_card check_right
 good l c s h =
-    let d = passed (twenty_digits c) (Refused card_digits) _ (Accepted s) (refused card_digits s) h in
-    let k = passed (check_right c) (Refused card_check) _ (Accepted s) (refused card_check s) d.1 in
-    let r = passed (in_range l (settings_on c)) (Refused card_field) _ (Accepted s) (refused card_field s) k.1 in
+    let d = passed (twenty_digits c) (Err card_digits) _ (Ok s) (refused card_digits s) h in
+    let k = passed (check_right c) (Err card_check) _ (Ok s) (refused card_check s) d.1 in
+    let r = passed (in_range l (settings_on c)) (Err card_field) _ (Ok s) (refused card_field s) k.1 in
     let same : settings_on c ≡ s = cc in
     record {
       digits = twenty c d.0;
@@ -71,6 +74,6 @@ good l c s h =
     }
 
 -- twenty digits that do not leave 1 are refused with 12
-pub wrong_check : (l : Limits) (c : List ℕ) → Twenty c → (decimal c % 97 ≡ 1 → ⊥) → read_card l c ≡ Refused card_check
+pub wrong_check : (l : Limits) (c : List ℕ) → Twenty c → (decimal c % 97 ≡ 1 → ⊥) → read_card l c ≡ Err card_check
 unfolding read_card check_right
 wrong_check l c t h = rw (is_twenty c t, ne_eqb (decimal c % 97) 1 h)

@@ -1,16 +1,14 @@
 -- The settings card: document 01, "The settings card". "Twenty ASCII digits: Gmin (3), B (5), T (5),
 -- spacing (5), check (2). The check is ISO/IEC 7064 MOD 97-10: the twenty digits as one number leave 1
 -- when divided by 97. Check digits 00, 01 and 99 are refused with 12, so each setting has one card."
-use Rattle.std.specs.Prelude.{ℕ, ◌-◌, ◌*◌, ◌%◌, Bool, ◌&&◌, List, ◌++◌, eqb, leb, length, take, drop}
+use Rattle.std.specs.Prelude.{ℕ, ◌-◌, ◌*◌, ◌%◌, Bool, ◌&&◌, List, ◌++◌, eqb, leb, length, take, drop, Result, Ok, Err}
 use Rattle.refusal.specs.Table.{card_digits, card_check, card_field, setting, buffer_short}
 use Rattle.refusal.specs.Answer.{unless}
-use Rattle.refusal.specs.declared.Written.{Written}
-use Rattle.refusal.specs.declared.Written.TheVariants.{Size, Refused as Written-as-Refused}
 use Rattle.settings.specs.Ranges.{Limits, within, in_range}
 use Rattle.settings.specs.declared.Settings.{Settings}
-use Rattle.card.specs.declared.CardRead.{CardRead}
-use Rattle.card.specs.declared.CardRead.TheVariants.{Accepted, Refused}
 use Rattle.card.specs.Decimal.{all_digits, decimal, digits}
+use Rattle.refusal.specs.Answer.{Written}
+use Rattle.refusal.specs.declared.Refusal.{Refusal}
 
 abbrev pub card_length : ℕ
 card_length = 20
@@ -37,12 +35,12 @@ unfoldable pub check_right : List ℕ → Bool
 check_right s = eqb (decimal s % 97) 1 && within check_min (field 18 2 s) check_max
 
 -- Reading, with the order line "Cards: 11, 12, 13".
-unfoldable pub read_card : Limits → List ℕ → CardRead
+unfoldable pub read_card : Limits → List ℕ → Result Settings Refusal
 read_card l s =
-    unless (twenty_digits s) (Refused card_digits)
-    (unless (check_right s) (Refused card_check)
-    (unless (in_range l (settings_on s)) (Refused card_field)
-    (Accepted (settings_on s))))
+    unless (twenty_digits s) (Err card_digits)
+    (unless (check_right s) (Err card_check)
+    (unless (in_range l (settings_on s)) (Err card_field)
+    (Ok (settings_on s))))
 
 -- the digits before the check
 unfoldable pub payload : Settings → List ℕ
@@ -58,6 +56,6 @@ card_of s = payload s ++ digits 2 (check_of (decimal (payload s)))
 -- Writing, with the order line "writing a card: 15, then 8".
 unfoldable pub write_card : Limits → Settings → List ℕ → Written
 write_card l s buffer =
-    unless (in_range l s) (Written-as-Refused setting)
-    (unless (leb card_length (length buffer)) (Written-as-Refused buffer_short)
-    (Size card_length))
+    unless (in_range l s) (Err setting)
+    (unless (leb card_length (length buffer)) (Err buffer_short)
+    (Ok card_length))

@@ -1,14 +1,12 @@
 -- What the steps of reading and writing a card compute, for the contracts of the private functions.
-use Rattle.std.specs.Prelude.{ℕ, ◌+◌, ◌*◌, ◌^◌, ◌<◌, List}
+use Rattle.std.specs.Prelude.{ℕ, ◌+◌, ◌*◌, ◌^◌, ◌<◌, List, Option, Some, None}
 use Rattle.refusal.specs.Answer.{unless}
 use Rattle.settings.specs.declared.Settings.{Settings}
-use Rattle.card.specs.declared.Parsed.{Parsed}
-use Rattle.card.specs.declared.Parsed.TheVariants.{Number, Other}
 use Rattle.card.specs.Decimal.{all_digits, decimal}
 
 -- bytes as a decimal number
-unfoldable pub number_in : List ℕ → Parsed
-number_in s = unless (all_digits s) Other (Number (decimal s))
+unfoldable pub number_in : List ℕ → Option ℕ
+number_in s = unless (all_digits s) None (Some (decimal s))
 
 -- settings that have room in their digits
 pub record Fits (s : Settings) : Type 0 where

@@ -5,42 +5,32 @@
 //     | Gmin | batch   | threshold | spacing | check |
 #![tactic(auto)]
 
-ghost use Rattle.std.specs.Prelude.{◌≡◌, ◌++◌, ◌-◌, ◌≤◌, length, take, drop};
+ghost use Rattle.std.specs.Prelude.{◌≡◌, ◌≤◌, length};
 ghost use Rattle.refusal.specs.Answer.{after};
 ghost use Rattle.settings.specs.Ranges.{limits};
-ghost use Rattle.card.specs.Decimal.{is_digit, digits};
+ghost use Rattle.card.specs.Decimal.{digits};
 ghost use Rattle.card.specs.Steps.{number_in, number_of, Fits};
 ghost use Rattle.card.specs.Card.{check_of, read_card, card_of, write_card};
 
-use refusal::{Refusal, Written};
+use refusal::Refusal;
 use settings::Settings;
-
-// What reading a card answers: its settings, or why not.
-#[derive(Clone, Copy)]
-pub enum CardRead {
-    Accepted(Settings),
-    Refused(Refusal),
-}
 
 pub const CARD_LENGTH: usize = 20;
 // The digits before the check.
 const PAYLOAD_LENGTH: usize = 18;
 
 // The settings on a card.
-pub fn read(card: &[u8]) -> CardRead
+#[tactic(auto, using(crate::proofs::Reading::wrong_length, crate::proofs::Reading::front_other, crate::proofs::Reading::back_other))]
+pub fn read(card: &[u8]) -> Result<Settings, Refusal>
     ensures { result ≡ read_card limits card.now }
 {
     if card.len() != CARD_LENGTH {
-        return CardRead::Refused(refusal::CARD_DIGITS);
+        return Err(Refusal::CardDigits);
     }
-    let Parsed::Number(payload) = number(&card[..PAYLOAD_LENGTH]) else {
-        return CardRead::Refused(refusal::CARD_DIGITS);
-    };
-    let Parsed::Number(check) = number(&card[PAYLOAD_LENGTH..]) else {
-        return CardRead::Refused(refusal::CARD_DIGITS);
-    };
+    let payload = number(&card[..PAYLOAD_LENGTH]).ok_or(Refusal::CardDigits)?;
+    let check = number(&card[PAYLOAD_LENGTH..]).ok_or(Refusal::CardDigits)?;
     if check != check_of(payload) {
-        return CardRead::Refused(refusal::CARD_CHECK);
+        return Err(Refusal::CardCheck);
     }
     let settings = Settings {
         gmin: (payload / 1_000_000_000_000_000) as u32,
@@ -49,57 +39,43 @@ pub fn read(card: &[u8]) -> CardRead
         spacing: (payload % 100_000) as u32,
     };
     if !settings::in_range(settings) {
-        return CardRead::Refused(refusal::CARD_FIELD);
+        return Err(Refusal::CardField);
     }
-    CardRead::Accepted(settings)
+    Ok(settings)
 }
 
 // Writes the card of the settings into the front of out.
-pub fn write(s: Settings, out: &mut [u8]) -> Written
+#[tactic(auto, using(crate::proofs::Cases::settings_fit), unfolding(crate::specs::Card::write_card))]
+pub fn write(s: Settings, out: &mut [u8]) -> Result<usize, Refusal>
     ensures answer { result ≡ write_card limits s out.old }
     ensures buffer { out.new ≡ after (write_card limits s out.old) (card_of s) out.old }
 {
     if !settings::in_range(s) {
-        return Written::Refused(refusal::SETTING);
+        return Err(Refusal::Setting);
     }
     if out.len() < CARD_LENGTH {
-        return Written::Refused(refusal::BUFFER_SHORT);
+        return Err(Refusal::BufferShort);
     }
     let payload = payload_of(s);
-    put_digits(out, 0, PAYLOAD_LENGTH, payload);
-    put_digits(out, PAYLOAD_LENGTH, CARD_LENGTH, check_of(payload));
-    Written::Size(CARD_LENGTH)
-}
-
-// What the bytes of a part are as a number.
-#[derive(Clone, Copy)]
-enum Parsed {
-    Number(u64),
-    Other,
-}
-
-fn is_digit(b: u8) -> bool
-    ensures { result ≡ is_digit b }
-{
-    (b'0' <= b) & (b <= b'9')
+    put_digits(&mut out[..PAYLOAD_LENGTH], payload);
+    put_digits(&mut out[PAYLOAD_LENGTH..CARD_LENGTH], check_of(payload));
+    Ok(CARD_LENGTH)
 }
 
 // The number that s writes in digits.
-fn number(s: &[u8]) -> Parsed
+#[tactic(auto, using(crate::proofs::Loops::taken_none, crate::proofs::Loops::taken_more, crate::proofs::Loops::taken_other, crate::proofs::Loops::taken_all, crate::proofs::Loops::taken_small))]
+fn number(s: &[u8]) -> Option<u64>
     requires { length s.now ≤ 18 }
     ensures { result ≡ number_in s.now }
 {
-    let mut n: u64 = 0;
-    let mut i = 0;
-    while i < s.len() {
-        let b = s[i];
-        if !is_digit(b) {
-            return Parsed::Other;
+    let mut n = 0;
+    for b in s {
+        if !b.is_ascii_digit() {
+            return None;
         }
         n = n * 10 + (b - b'0') as u64;
-        i += 1;
     }
-    Parsed::Number(n)
+    Some(n)
 }
 
 // The check digits of a payload, from 2 to 98.
@@ -118,16 +94,14 @@ fn payload_of(s: Settings) -> u64
         + s.spacing as u64
 }
 
-// Writes the last digits of n from start to end, the lowest at the end.
-fn put_digits(out: &mut [u8], start: usize, end: usize, n: u64)
-    requires { (start ≤ end) × (end ≤ length out.old) }
-    ensures { out.new ≡ take start out.old ++ digits (end - start) n ++ drop end out.old }
+// Fills a part with the last digits of n, the lowest at the end.
+#[tactic(auto, using(crate::proofs::Loops::put_none, crate::proofs::Loops::put_more, crate::proofs::Loops::put_all))]
+fn put_digits(part: &mut [u8], n: u64)
+    ensures { part.new ≡ digits (length part.old) n }
 {
     let mut rest = n;
-    let mut i = end;
-    while start < i {
-        i -= 1;
-        out[i] = b'0' + (rest % 10) as u8;
+    for i in (0..part.len()).rev() {
+        part[i] = b'0' + (rest % 10) as u8;
         rest /= 10;
     }
 }

@@ -4,12 +4,12 @@
 #![tactic(auto)]
 
 ghost use Rattle.std.specs.Prelude.{◌≡◌};
-ghost use Rattle.settings.specs.Ranges.{limits, within, burst_in_range, batch_in_range, in_range};
+ghost use Rattle.settings.specs.Ranges.{limits, burst_in_range, batch_in_range, in_range};
 
 // The four settings of a card, and the range of each.
 // C: nuvaskoe_settings
 #[repr(C)]
-#[derive(Clone, Copy)]
+#[derive(Clone, Copy, Default)]
 pub struct Settings {
     pub gmin: u32, // 1 to 255 packets
     pub batch: u32, // 1 to 1,024 packets
@@ -33,31 +33,27 @@ pub const SPACING_MIN: u32 = 1;
 
 pub const SPACING_MAX: u32 = 40_000;
 
-// Whether n is from low to high, both included.
-fn within(low: u32, n: u32, high: u32) -> bool
-    ensures { result ≡ within low n high }
-{
-    (low <= n) & (n <= high)
-}
-
 // Whether the settings of burst figures are in their ranges.
+#[tactic(auto, unfolding(crate::specs::Ranges::burst_in_range))]
 pub fn burst_in_range(gmin: u32, spacing: u32) -> bool
     ensures { result ≡ burst_in_range gmin spacing }
 {
-    within(GMIN_MIN, gmin, GMIN_MAX) & within(SPACING_MIN, spacing, SPACING_MAX)
+    (GMIN_MIN..=GMIN_MAX).contains(&gmin) && (SPACING_MIN..=SPACING_MAX).contains(&spacing)
 }
 
 // Whether the settings of effective loss and the plan are in their ranges. The threshold's does not
 // depend on the batch.
+#[tactic(auto, unfolding(crate::specs::Ranges::batch_in_range))]
 pub fn batch_in_range(batch: u32, threshold: u32) -> bool
     ensures { result ≡ batch_in_range limits batch threshold }
 {
-    within(BATCH_MIN, batch, BATCH_MAX) & within(THRESHOLD_MIN, threshold, THRESHOLD_MAX)
+    (BATCH_MIN..=BATCH_MAX).contains(&batch) && (THRESHOLD_MIN..=THRESHOLD_MAX).contains(&threshold)
 }
 
 // Whether all four settings are in their ranges.
+#[tactic(auto, unfolding(crate::specs::Ranges::in_range))]
 pub fn in_range(s: Settings) -> bool
     ensures { result ≡ in_range limits s }
 {
-    burst_in_range(s.gmin, s.spacing) & batch_in_range(s.batch, s.threshold)
+    burst_in_range(s.gmin, s.spacing) && batch_in_range(s.batch, s.threshold)
 }

@@ -9,13 +9,13 @@ use lib.ListN.{length, get_or, get_or-eq_default}
 use Rattle.trace.specs.Sum.{bit}
 use Rattle.trace.specs.declared.Event.{Event}
 use Rattle.trace.specs.declared.Event.TheVariants.{Lost, Discarded, Either}
-use Rattle.trace.specs.declared.EventRead.TheVariants.{Known}
 use Rattle.trace.specs.Trace.{received, counts_as, counted_at, flagged}
 use Rattle.trace.specs.Laws.{IsTrace}
 use Rattle.trace.specs.Events.{event_in, event_number}
 use Rattle.trace.proofs.Sums.{bit_le}
+use Rattle.std.specs.Prelude.{Some}
 
-pub event_back : (event : Event) → event_in (event_number event) ≡ Known event
+pub event_back : (event : Event) → event_in (event_number event) ≡ Some event
 unfolding event_in
 event_back Lost = refl
 event_back Discarded = refl

@@ -13,12 +13,13 @@ use lib.Seq.{drop-cons}
 use Rattle.refusal.specs.Answer.{unless}
 use Rattle.refusal.specs.Table.{trace_length, trace_byte}
 use Rattle.refusal.proofs.Tests.{both, and_left, and_right}
-use Rattle.refusal.specs.declared.Judged.TheVariants.{Accepted, Refused}
 use Rattle.trace.specs.Trace.{packet_max, trace_min, trace_max, packets_within, length_within, first_above, judged_within}
 use Rattle.trace.specs.Laws.{IsWithin, AcceptedWithin, AcceptedTrace, WithinAccepted, TraceAccepted, FirstAbove, FirstBad}
+use Rattle.std.specs.Prelude.{cond, Ok, Err, Some, None}
+use Rattle.std.specs.List.{position, position_or_len}
 
 -- the length
-pub out_of_range : (limit highest : ℕ) (s : List ℕ) → packets_within limit (length s) ≡ false → Refused trace_length ≡ judged_within limit highest s
+pub out_of_range : (limit highest : ℕ) (s : List ℕ) → packets_within limit (length s) ≡ false → Err trace_length ≡ judged_within limit highest s
 unfolding judged_within
 out_of_range limit highest s h = rw h
 
@@ -39,15 +40,36 @@ pub ranged : (limit n : ℕ) → packets_within limit n ≡ true → (trace_min 
 unfolding packets_within
 ranged limit n h = (leb-true trace_min n (and_left (leb trace_min n) (leb n limit) h), leb-true n limit (and_right (leb trace_min n) (leb n limit) h))
 
+-- where the library's search finds it
+above_first : (highest : ℕ) (s : List ℕ) → position_or_len (λ packet. ltb highest packet) s ≡ first_above highest s
+unfolding first_above
+above_first highest [] = refl
+above_first highest (packet ∷ s) = go (ltb highest packet) refl (above_first highest s)
+  where
+    go : (t : Bool) → ltb highest packet ≡ t → position_or_len (λ x. ltb highest x) s ≡ first_above highest s → position_or_len (λ x. ltb highest x) (packet ∷ s) ≡ first_above highest (packet ∷ s)
+    go true e later = rw (e, lt-leb packet highest (ltb-true highest packet e))
+    go false e later = rw (e, le-leb packet highest (ltb-false highest packet e)) (omega (arith, later))
+
+pub no_position : (highest : ℕ) (s : List ℕ) → ltb (first_above highest s) (length s) ≡ false → None ≡ position (λ packet. ltb highest packet) s
+no_position highest s h = rw (above_first highest s, h)
+
 -- the bytes, once the length is in range
 module _ (limit highest : ℕ) (s : List ℕ) (range : packets_within limit (length s) ≡ true) where
-  pub bad_byte : ltb (first_above highest s) (length s) ≡ true → Refused (trace_byte (first_above highest s)) ≡ judged_within limit highest s
+  pub bad_byte : (index : ℕ) → position (λ packet. ltb highest packet) s ≡ Some index → Err (trace_byte index) ≡ judged_within limit highest s
   unfolding judged_within
-  bad_byte h = rw (range, lt-leb (length s) (first_above highest s) (ltb-true (first_above highest s) (length s) h))
+  bad_byte index h = go (ltb (first_above highest s) (length s)) refl (rw (sym (above_first highest s)) h)
+    where
+      go : (t : Bool) → ltb (first_above highest s) (length s) ≡ t → cond t (Some (first_above highest s)) None ≡ Some index → Err (trace_byte index) ≡ judged_within limit highest s
+      go true e h = let same : first_above highest s ≡ index = cc in rw (range, lt-leb (length s) (first_above highest s) (ltb-true (first_above highest s) (length s) e), same)
+      go false e h = let z : ◌≡◌ {A = ℕ} 0 1 = cc in absurd (omega arith)
 
-  pub all_good : ltb (first_above highest s) (length s) ≡ false → Accepted ≡ judged_within limit highest s
+  pub all_good : position (λ packet. ltb highest packet) s ≡ None → Ok (tt {0}) ≡ judged_within limit highest s
   unfolding judged_within
-  all_good h = rw (range, le-leb (length s) (first_above highest s) (ltb-false (first_above highest s) (length s) h))
+  all_good h = go (ltb (first_above highest s) (length s)) refl (rw (sym (above_first highest s)) h)
+    where
+      go : (t : Bool) → ltb (first_above highest s) (length s) ≡ t → cond t (Some (first_above highest s)) None ≡ None → Ok (tt {0}) ≡ judged_within limit highest s
+      go true e h = let z : ◌≡◌ {A = ℕ} 0 1 = cc in absurd (omega arith)
+      go false e h = rw (range, le-leb (length s) (first_above highest s) (ltb-false (first_above highest s) (length s) e))
 
 -- what the first bad byte is
 before_bad : (highest : ℕ) (s : List ℕ) (i : ℕ) → i < first_above highest s → get_or s i 0 ≤ highest
@@ -74,32 +96,6 @@ first_above_lem highest s h = record { bad = at_bad highest s h; before = before
 
 pub first_bad_lem : FirstBad
 first_bad_lem = first_above_lem packet_max
-
--- Searching for it: the first i bytes are good.
-pub record Good (highest : ℕ) (s : List ℕ) (i : ℕ) : Type 0 where
-  pub within : i ≤ length s
-  pub rest : first_above highest s ≡ i + first_above highest (drop i s)
-
-pub good_none : (highest : ℕ) (s : List ℕ) → Good highest s 0
-good_none highest s = record { within = omega arith; rest = omega arith }
-
-module _ (highest : ℕ) (s : List ℕ) (i : ℕ) (g : Good highest s i) where
-  pub good_more : i < length s → get_or s i 0 ≤ highest → Good highest s (i + 1)
-  good_more l h =
-      let later : first_above highest (drop i s) ≡ suc (first_above highest (drop (suc i) s)) = rw (drop-cons s i 0 l, bad_later highest (get_or s i 0) (drop (suc i) s) h) in
-      let rest = g.rest in
-      record { within = omega arith; rest = rw add-one (omega arith) }
-
-  pub good_bad : i < length s → highest < get_or s i 0 → i ≡ first_above highest s
-  good_bad l h =
-      let none : first_above highest (drop i s) ≡ 0 = rw (drop-cons s i 0 l, bad_here highest (get_or s i 0) (drop (suc i) s) h) in
-      omega (arith, g.rest)
-
-  pub good_all : length s ≤ i → i ≡ first_above highest s
-  unfolding first_above
-  good_all h =
-      let none : first_above highest (drop i s) ≡ 0 = rw (drop_of_length-le s h) in
-      omega (arith, g.rest)
 
 -- Asking whether there is one: `found` says whether it is among the first i bytes.
 pub record Asked (highest : ℕ) (s : List ℕ) (found : Bool) (i : ℕ) : Type 0 where
@@ -130,7 +126,7 @@ unfolding judged_within packets_within
 accepted_within limit highest s h = go (leb trace_min (length s)) (leb (length s) limit) (leb (length s) (first_above highest s)) refl refl refl h
   where
     go : (a b g : Bool) → leb trace_min (length s) ≡ a → leb (length s) limit ≡ b → leb (length s) (first_above highest s) ≡ g →
-        unless (a && b) (Refused trace_length) (unless g (Refused (trace_byte (first_above highest s))) Accepted) ≡ Accepted → IsWithin limit highest s
+        unless (a && b) (Err trace_length) (unless g (Err (trace_byte (first_above highest s))) (Ok (tt {0}))) ≡ Ok (tt {0}) → IsWithin limit highest s
     go true true true some most all e =
         record {
           some = leb-true trace_min (length s) some;
@@ -145,7 +141,7 @@ pub within_accepted : (limit highest : ℕ) → WithinAccepted limit highest
 unfolding judged_within
 within_accepted limit highest s h = go (leb (length s) (first_above highest s)) refl
   where
-    go : (t : Bool) → leb (length s) (first_above highest s) ≡ t → unless (length_within limit s) (Refused trace_length) (unless (leb (length s) (first_above highest s)) (Refused (trace_byte (first_above highest s))) Accepted) ≡ Accepted
+    go : (t : Bool) → leb (length s) (first_above highest s) ≡ t → unless (length_within limit s) (Err trace_length) (unless (leb (length s) (first_above highest s)) (Err (trace_byte (first_above highest s))) (Ok (tt {0}))) ≡ Ok (tt {0})
     go true e = rw (in_range_lem limit (length s) h.some h.most, e)
     go false e =
         let l = leb-false (length s) (first_above highest s) e in

@@ -1,6 +1,5 @@
 -- What callers may lean on, as statements about the definitions that `judge` promises. Proved in proofs/.
-use Rattle.std.specs.Prelude.{ℕ, ◌<◌, ◌≤◌, ◌≡◌, List, length, get_or}
-use Rattle.refusal.specs.declared.Judged.TheVariants.{Accepted}
+use Rattle.std.specs.Prelude.{ℕ, ◌<◌, ◌≤◌, ◌≡◌, List, length, get_or, Ok}
 use Rattle.trace.specs.Trace.{packet_max, trace_min, trace_max, first_above, judged_within}
 
 -- "An accepted trace has 1 to 65,536 bytes, each 0, 1 or 2."; with other limits, as many packets and as high bytes as these say.
@@ -13,13 +12,13 @@ abbrev pub IsTrace : List ℕ → Type 0
 IsTrace s = IsWithin trace_max packet_max s
 
 abbrev pub AcceptedWithin : ℕ → ℕ → Type 0
-AcceptedWithin limit highest = (s : List ℕ) → judged_within limit highest s ≡ Accepted → IsWithin limit highest s
+AcceptedWithin limit highest = (s : List ℕ) → judged_within limit highest s ≡ (Ok tt) → IsWithin limit highest s
 
 abbrev pub AcceptedTrace : Type 0
 AcceptedTrace = AcceptedWithin trace_max packet_max
 
 abbrev pub WithinAccepted : ℕ → ℕ → Type 0
-WithinAccepted limit highest = (s : List ℕ) → IsWithin limit highest s → judged_within limit highest s ≡ Accepted
+WithinAccepted limit highest = (s : List ℕ) → IsWithin limit highest s → judged_within limit highest s ≡ (Ok tt)
 
 abbrev pub TraceAccepted : Type 0
 TraceAccepted = WithinAccepted trace_max packet_max

@@ -1,14 +1,13 @@
 -- A trace: document 01, "The trace and its figures". "One byte a packet: 0 received, 1 lost, 2 discarded.
 -- From 1 to 65,536 packets." What a call counts is a parameter, the event: document 02, ticket 7, "the caller chooses
 -- what counts as a loss: lost only, discarded only, or either".
-use Rattle.std.specs.Prelude.{ℕ, suc, Bool, cond, ◌&&◌, ◌||◌, List, [], ◌∷◌, map, eqb, leb, length, get_or}
+use Rattle.std.specs.Prelude.{ℕ, suc, Bool, cond, ◌&&◌, ◌||◌, List, [], ◌∷◌, map, eqb, leb, length, get_or, Ok, Err}
 use Rattle.refusal.specs.Table.{trace_length, trace_byte}
 use Rattle.refusal.specs.Answer.{unless}
 use Rattle.trace.specs.Sum.{bit}
 use Rattle.trace.specs.declared.Event.{Event}
 use Rattle.trace.specs.declared.Event.TheVariants.{Lost, Discarded, Either}
-use Rattle.refusal.specs.declared.Judged.{Judged}
-use Rattle.refusal.specs.declared.Judged.TheVariants.{Accepted, Refused}
+use Rattle.refusal.specs.Answer.{Judged}
 
 abbrev pub received : ℕ
 received = 0
@@ -63,9 +62,9 @@ first_bad s = first_above packet_max s
 -- A trace by itself: 10 and 9 of the order line "Traces: 15, 10, 9, 14, 8".
 unfoldable pub judged_within : ℕ → ℕ → List ℕ → Judged
 judged_within limit highest s =
-    unless (length_within limit s) (Refused trace_length)
-    (unless (leb (length s) (first_above highest s)) (Refused (trace_byte (first_above highest s)))
-    Accepted)
+    unless (length_within limit s) (Err trace_length)
+    (unless (leb (length s) (first_above highest s)) (Err (trace_byte (first_above highest s)))
+    (Ok tt))
 
 abbrev pub judged : List ℕ → Judged
 judged s = judged_within trace_max packet_max s

@@ -3,11 +3,14 @@
 #![tactic(auto)]
 
 ghost use Rattle.std.specs.Prelude.{◌≡◌, ltb, length};
+ghost use Rattle.std.specs.List.{position};
+ghost use Rattle.std.specs.Option.{ok_or};
+ghost use Rattle.refusal.specs.Table.{setting};
 ghost use Rattle.trace.specs.Events.{event_in, event_number};
 ghost use Rattle.trace.specs.Sum.{bit};
 ghost use Rattle.trace.specs.Trace.{counts_as, packets_within, first_above, judged_within, judged};
 
-use refusal::Judged;
+use refusal::Refusal;
 
 pub const LOST: u8 = 1;
 
@@ -25,40 +28,40 @@ pub const TRACE_MIN: usize = 1;
 pub const TRACE_MAX: usize = 65_536;
 
 // What a call counts, by the caller's choice: document 02, ticket 7. All other packets are to it as received.
-#[derive(Clone, Copy)]
+#[derive(Clone, Copy, Debug, PartialEq, Eq)]
 pub enum Event {
     Lost,
     Discarded,
     Either,
 }
 
-// An event by its number.
-#[derive(Clone, Copy)]
-pub enum EventRead {
-    Known(Event),
-    Unknown,
-}
+// The event with this number; any other number is a setting outside its range.
+impl TryFrom<u32> for Event {
+    type Error = Refusal;
 
-// The event with this number.
-pub fn event_in(number: u32) -> EventRead
-    ensures { result ≡ event_in number }
-{
-    match number {
-        1 => EventRead::Known(Event::Lost),
-        2 => EventRead::Known(Event::Discarded),
-        3 => EventRead::Known(Event::Either),
-        _ => EventRead::Unknown,
+    ghost try_from_gives = { λ number r. r ≡ ok_or (event_in number) setting };
+
+    #[tactic(auto, unfolding(crate::specs::Events::event_in))]
+    fn try_from(number: u32) -> Result<Event, Refusal> {
+        match number {
+            1 => Ok(Event::Lost),
+            2 => Ok(Event::Discarded),
+            3 => Ok(Event::Either),
+            _ => Err(Refusal::Setting),
+        }
     }
 }
 
 // The number of an event.
-pub fn event_number(event: Event) -> u32
-    ensures { result ≡ event_number event }
-{
-    match event {
-        Event::Lost => 1,
-        Event::Discarded => 2,
-        Event::Either => 3,
+impl From<Event> for u32 {
+    ghost from_gives = { λ event number. number ≡ event_number event };
+
+    fn from(event: Event) -> u32 {
+        match event {
+            Event::Lost => 1,
+            Event::Discarded => 2,
+            Event::Either => 3,
+        }
     }
 }
 
@@ -81,23 +84,23 @@ pub fn counted(event: Event, packet: u8) -> usize
 }
 
 // Judges a trace by its length and then by its bytes.
-pub fn judge(trace: &[u8]) -> Judged
+pub fn judge(trace: &[u8]) -> Result<(), Refusal>
     ensures { result ≡ judged trace.now }
 {
     judge_within(trace, TRACE_MAX, PACKET_MAX)
 }
 
 // The same with another limit on its packets, and another on its bytes.
-pub fn judge_within(trace: &[u8], limit: usize, highest: u8) -> Judged
+pub fn judge_within(trace: &[u8], limit: usize, highest: u8) -> Result<(), Refusal>
     ensures { result ≡ judged_within limit highest trace.now }
 {
     if !in_range(trace.len(), limit) {
-        return Judged::Refused(refusal::TRACE_LENGTH);
+        return Err(Refusal::TraceLength);
     }
-    if has_bad(trace, highest) {
-        return Judged::Refused(refusal::trace_byte(first_bad(trace, highest)));
+    match first_bad(trace, highest) {
+        Some(index) => Err(Refusal::TraceByte(index)),
+        None => Ok(()),
     }
-    Judged::Accepted
 }
 
 // Whether so many packets are a trace's, with another limit on them too.
@@ -107,29 +110,23 @@ pub fn in_range(packets: usize, limit: usize) -> bool
     (TRACE_MIN <= packets) & (packets <= limit)
 }
 
+// Where the first byte above the highest stands, if there is one.
+fn first_bad(s: &[u8], highest: u8) -> Option<usize>
+    ensures { result ≡ position (λ packet. ltb highest packet) s.now }
+{
+    if !has_bad(s, highest) {
+        return None;
+    }
+    s.iter().position(|packet| highest < *packet)
+}
+
 // Whether a byte is above the highest. Nothing leaves this loop early, so that it is compiled to many bytes a step.
 fn has_bad(s: &[u8], highest: u8) -> bool
     ensures { result ≡ ltb (first_above highest s.now) (length s.now) }
 {
     let mut found = false;
-    let mut i = 0;
-    while i < s.len() {
-        found = found | (highest < s[i]);
-        i += 1;
+    for packet in s {
+        found |= highest < *packet;
     }
     found
-}
-
-// Where the first byte above the highest stands; the length, where there is none.
-fn first_bad(s: &[u8], highest: u8) -> usize
-    ensures { result ≡ first_above highest s.now }
-{
-    let mut i = 0;
-    while i < s.len() {
-        if highest < s[i] {
-            return i;
-        }
-        i += 1;
-    }
-    i
 }

@@ -1,13 +1,15 @@
 -- Bytes placed in a buffer: where they fit, one run of bytes behind another, and each byte afterwards. Assumes nothing.
-use Prim.Native.Nat.{ℕ, suc, ◌+◌, ◌-◌, ◌<◌, ◌≤◌}
-use mathlib.Core.Path.{◌≡◌, sym, ap, ap₂, ◌∙◌}
-use mathlib.Core.List.{List, [], ◌∷◌, ◌++◌, append_assoc, append-nil}
+use Prim.Native.Nat.{ℕ, ◌+◌, ◌-◌, ◌<◌, ◌≤◌}
+use mathlib.Core.Path.{◌≡◌, refl, sym, ap, ap₂, ◌∙◌}
+use mathlib.Core.List.{List, [], ◌++◌, append_assoc, append-nil}
 use native.Mathlib.Omega.{arith}
 use native.Mathlib.Nat.{add-zero}
 use native.Mathlib.Decide.{dec_lt}
 use borrow.Author.Tests.{le-leb, lt-leb}
-use lib.ListN.{length, get_or, take, drop, set, length-append, length-drop, take-append-drop, get_or-append}
-use lib.Seq.{length-take-le, take_at, drop-append-add, drop-drop, sets-eq, get_or-take, get_or-drop, get_or-append-add}
+use borrow.Rule.Slice.PartMut.{put_mid}
+use lib.ListN.{length, get_or, take, drop, length-append, length-drop, take-append-drop, get_or-append}
+use lib.Seq.{length-take-le, take_all, take_at, drop-append-add, drop-drop, get_or-take, get_or-drop, get_or-append-add}
+use Rattle.std.proofs.lemmas.Slice.{put_mid-paste}
 use Rattle.wire.specs.BigEndian.{placed}
 
 module _ (s : List ℕ) (i : ℕ) (xs : List ℕ) where
@@ -117,30 +119,12 @@ placed_here s i xs j h l =
     ∙ get_or-append (take i s ++ xs) (drop (i + length xs) s) 0 (i + j) (omega arith)
     ∙ ap (λ (n : ℕ). get_or (take i s ++ xs) (n + j) 0) (sym front) ∙ get_or-append-add (take i s) xs j 0
 
--- bytes stored one after the other
-pub stored_2 : (s : List ℕ) (i a b : ℕ) → i + 2 ≤ length s → set (set s i a) (i + 1) b ≡ placed s i (a ∷ b ∷ [])
-stored_2 s i a b h =
-    let one : i + 1 ≡ suc i = omega arith in
-    rw one (sets-eq (a ∷ b ∷ []) s i h ∙ sym (placed_in s i (a ∷ b ∷ []) h))
-
-pub stored_4 : (s : List ℕ) (i a b c d : ℕ) → i + 4 ≤ length s →
-    set (set (set (set s i a) (i + 1) b) (i + 2) c) (i + 3) d ≡ placed s i (a ∷ b ∷ c ∷ d ∷ [])
-stored_4 s i a b c d h =
-    let one : i + 1 ≡ suc i = omega arith in
-    let two : i + 2 ≡ suc (suc i) = omega arith in
-    let three : i + 3 ≡ suc (suc (suc i)) = omega arith in
-    rw (one, two, three) (sets-eq (a ∷ b ∷ c ∷ d ∷ []) s i h ∙ sym (placed_in s i (a ∷ b ∷ c ∷ d ∷ []) h))
-
-pub stored_8 : (s : List ℕ) (i a b c d e f g h : ℕ) → i + 8 ≤ length s →
-    set (set (set (set (set (set (set (set s i a) (i + 1) b) (i + 2) c) (i + 3) d) (i + 4) e) (i + 5) f) (i + 6) g) (i + 7) h
-    ≡ placed s i (a ∷ b ∷ c ∷ d ∷ e ∷ f ∷ g ∷ h ∷ [])
-stored_8 s i a b c d e f g h room =
-    let bytes : List ℕ = a ∷ b ∷ c ∷ d ∷ e ∷ f ∷ g ∷ h ∷ [] in
-    let one : i + 1 ≡ suc i = omega arith in
-    let two : i + 2 ≡ suc (suc i) = omega arith in
-    let three : i + 3 ≡ suc (suc (suc i)) = omega arith in
-    let four : i + 4 ≡ suc (suc (suc (suc i))) = omega arith in
-    let five : i + 5 ≡ suc (suc (suc (suc (suc i)))) = omega arith in
-    let six : i + 6 ≡ suc (suc (suc (suc (suc (suc i))))) = omega arith in
-    let seven : i + 7 ≡ suc (suc (suc (suc (suc (suc (suc i)))))) = omega arith in
-    rw (one, two, three, four, five, six, seven) (sets-eq bytes s i room ∙ sym (placed_in s i bytes room))
+-- bytes written over a part of as many
+pub placed_mid : (s : List ℕ) (i k n : ℕ) (xs ys : List ℕ) → ys ≡ xs → length ys ≡ length (take k (drop i s)) → k ≡ n → i + n ≤ length s →
+    put_mid i k s ys ≡ placed s i xs
+placed_mid s i k n xs ys is long part room =
+    let rest = length-drop i s in
+    let taken = length-take-le k (drop i s) (omega arith) in
+    let same = ap length is in
+    put_mid-paste i k s ys xs (length xs) is (omega arith) refl
+    ∙ ap (λ (mid : List ℕ). take i s ++ mid ++ drop (i + length xs) s) (take_all (length xs) xs (omega arith)) ∙ sym (placed_in s i xs (omega arith))

@@ -1,6 +1,6 @@
 -- Numbers in network byte order, the most significant byte first: RFC 3611, section 2. "All numbers are
 -- big-endian" (document 01, "The packet").
-use Rattle.std.specs.Prelude.{ℕ, ◌+◌, ◌*◌, ◌/◌, ◌%◌, List, [], ◌∷◌, ◌++◌, leb, length, get_or, take, drop}
+use Rattle.std.specs.Prelude.{ℕ, ◌+◌, ◌*◌, ◌/◌, ◌%◌, List, [], ◌∷◌, ◌++◌, leb, length, get_or, take, drop, replicate}
 use Rattle.refusal.specs.Answer.{unless}
 
 -- the 16-bit and the 32-bit number whose first byte stands at i
@@ -16,6 +16,10 @@ u16_at s i = unless (leb (i + 2) (length s)) 0 (be16 s i)
 
 unfoldable pub u32_at : List ℕ → ℕ → ℕ
 u32_at s i = unless (leb (i + 4) (length s)) 0 (be32 s i)
+
+-- the n bytes from place i on, or as many zeros where they run past the end
+unfoldable pub bytes_in : ℕ → List ℕ → ℕ → List ℕ
+bytes_in n s i = unless (leb (i + n) (length s)) (replicate n 0) (take n (drop i s))
 
 -- the bytes of a 16-bit and of a 32-bit number
 abbrev pub bytes16 : ℕ → List ℕ

@@ -2,70 +2,57 @@
 // written, so that the calls take any bytes and any position; a caller that knows its size never meets that.
 #![tactic(auto)]
 
-ghost use Rattle.std.specs.Prelude.{◌≡◌, ◌+◌, ◌≤◌, length};
-ghost use Rattle.wire.specs.BigEndian.{be16, u16_at, u32_at, bytes16, bytes32, placed};
+ghost use Rattle.std.specs.Prelude.{◌≡◌};
+ghost use Rattle.wire.specs.BigEndian.{u16_at, u32_at, bytes_in, bytes16, bytes32, placed};
 
 // The 16-bit number whose first byte stands at i.
 pub fn u16_at(s: &[u8], i: usize) -> u16
     ensures { result ≡ u16_at s.now i }
 {
-    if s.len() < 2 {
-        return 0;
-    }
-    if s.len() - 2 < i {
-        return 0;
-    }
-    pair(s, i)
+    u16::from_be_bytes(bytes_at(s, i))
 }
 
 // The 32-bit number whose first byte stands at i.
 pub fn u32_at(s: &[u8], i: usize) -> u32
     ensures { result ≡ u32_at s.now i }
 {
-    if s.len() < 4 {
-        return 0;
-    }
-    if s.len() - 4 < i {
-        return 0;
-    }
-    pair(s, i) as u32 * 65_536 + pair(s, i + 2) as u32
+    u32::from_be_bytes(bytes_at(s, i))
 }
 
-fn pair(s: &[u8], i: usize) -> u16
-    requires { i + 2 ≤ length s.now }
-    ensures { result ≡ be16 s.now i }
+// The bytes from i on; zeros where they run past the end.
+fn bytes_at<const N: usize>(s: &[u8], i: usize) -> [u8; N]
+    ensures { result ≡ bytes_in N s.now i }
 {
-    s[i] as u16 * 256 + s[i + 1] as u16
+    let Some(rest) = s.get(i..) else {
+        return [0; N];
+    };
+    match rest.first_chunk() {
+        Some(bytes) => *bytes,
+        None => [0; N],
+    }
 }
 
 // Writes a 16-bit number whose first byte then stands at i.
-pub fn put_u16(s: &mut [u8], i: usize, n: u16)
-    ensures { s.new ≡ placed s.old i (bytes16 n) }
+pub fn put_u16(s: &mut [u8], i: usize, half: u16)
+    ensures { s.new ≡ placed s.old i (bytes16 half) }
 {
-    let length = s.len();
-    if length < 2 {
-        return;
-    }
-    if length - 2 < i {
-        return;
-    }
-    s[i] = (n / 256) as u8;
-    s[i + 1] = (n % 256) as u8;
+    put(s, i, half.to_be_bytes());
 }
 
 // Writes a 32-bit number whose first byte then stands at i.
-pub fn put_u32(s: &mut [u8], i: usize, n: u32)
-    ensures { s.new ≡ placed s.old i (bytes32 n) }
+pub fn put_u32(s: &mut [u8], i: usize, word: u32)
+    ensures { s.new ≡ placed s.old i (bytes32 word) }
+{
+    put(s, i, word.to_be_bytes());
+}
+
+// Writes bytes, the first of them at i.
+fn put<const N: usize>(s: &mut [u8], i: usize, bytes: [u8; N])
+    ensures { s.new ≡ placed s.old i bytes.entry }
 {
     let length = s.len();
-    if length < 4 {
+    if length < N || length - N < i {
         return;
     }
-    if length - 4 < i {
-        return;
-    }
-    s[i] = (n / 16_777_216) as u8;
-    s[i + 1] = (n / 65_536 % 256) as u8;
-    s[i + 2] = (n / 256 % 256) as u8;
-    s[i + 3] = (n % 256) as u8;
+    s[i..i + N].copy_from_slice(&bytes);
 }

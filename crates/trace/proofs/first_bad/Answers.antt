@@ -1,16 +1,7 @@
--- `trace::first_bad` meets its contract. The loop's invariant is `Good`. Assumes nothing.
-use native.Mathlib.Omega.{arith}
-use Rattle.trace.proofs.Judging.{good_none, good_more, good_bad, good_all}
+-- `trace::first_bad` meets its contract: where no byte is above the highest, the search finds none. Assumes nothing.
+use mathlib.Core.Path.{sym, ◌∙◌}
+use Rattle.trace.proofs.Judging.{no_position}
 use Rattle.trace.proofs.first_bad.Goals as goal
 
-pub loop-i-init : goal.loop-i-init
-loop-i-init c = good_none _ _
-
-pub returns-then-highest-s : goal.returns-then-highest-s
-returns-then-highest-s c = good_bad _ _ _ c.loop-i.invariant (omega arith) (omega arith)
-
-pub loop-i-preserved : goal.loop-i-preserved
-loop-i-preserved c = good_more _ _ _ c.loop-i.invariant (omega arith) (omega arith)
-
-pub returns : goal.returns
-returns c = good_all _ _ _ c.loop-i.invariant (omega arith)
+pub returns-then-not-has_bad : goal.returns-then-not-has_bad
+returns-then-not-has_bad c = no_position _ _ (sym c.has_bad.ensures ∙ c.if-not-has_bad.true)

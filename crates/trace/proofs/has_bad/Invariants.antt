@@ -1,11 +1,6 @@
 -- `trace::has_bad` meets its contract. The loop's invariant is `Asked`. Assumes nothing.
-use Prim.Native.Nat.{◌-◌}
-use lib.ListN.{length}
 use Rattle.trace.proofs.Judging.{Asked}
 use Rattle.trace.proofs.has_bad.Given as goal
 
-abbrev pub invariant-loop-i : goal.invariant-loop-i
-invariant-loop-i l = Asked l.highest l.s l.found l.i
-
-abbrev pub decreases-loop-i : goal.decreases-loop-i
-decreases-loop-i l = length l.s - l.i
+abbrev pub invariant-loop-packet : goal.invariant-loop-packet
+invariant-loop-packet l = Asked l.highest l.s l.found l.packet-index
