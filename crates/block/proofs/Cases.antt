@@ -8,10 +8,12 @@ use Rattle.block.specs.declared.Block.{Block}
 use Rattle.block.specs.declared.Block.TheVariants.{Measured, Loss, Discard, Effective, Streams}
 use Rattle.block.specs.declared.BlockRead.{BlockRead}
 use Rattle.block.specs.declared.BlockRead.TheVariants.{Typed, Rle, Unknown, Dropped}
-use Rattle.block.specs.Types.{rle_type, measurement_type, loss_type, discard_type, effective_type, streams_type, measurement_words, loss_words, discard_words, effective_words, streams_words, bad_size, bad_flag, bad_rate, bad_chunks}
+use Rattle.block.specs.Types.{rle_type, measurement_type, loss_type, discard_type, effective_type, streams_type, measurement_words, loss_words, discard_words, effective_words, streams_words}
 use Rattle.block.specs.Layouts.{measurement_in, flag_in, loss_in, discard_in, effective_in, streams_in, thinning_in, rle_in}
 use Rattle.block.specs.Reading.{flag_good, rate_good, summary_good, sized, summary_read, read_measurement, read_loss, read_discard, read_effective, read_streams, rle_sized, rle_covered, read_rle, read_block, read_bytes}
 use Rattle.block.specs.Laws.{OwnReason}
+use Rattle.block.specs.declared.Reason.{Reason}
+use Rattle.block.specs.declared.Reason.TheVariants.{BadSize, BadFlag, BadRate, BadChunks}
 
 -- the flag and the rates that stand in a 17 or 18 are good
 abbrev pub Good : ℕ → List ℕ → Type 0
@@ -34,7 +36,7 @@ good_typed flag burst gap b good =
 
 module _ (specific : ℕ) (body : List ℕ) (P : ℕ → BlockRead → Type 0)
     (unknown : (type : ℕ) → P type Unknown)
-    (dropped : (type reason : ℕ) → OwnReason reason → P type (Dropped reason))
+    (dropped : (type : ℕ) (reason : Reason) → OwnReason reason → P type (Dropped reason))
     (rle : GoodRle specific body → P rle_type (Rle (rle_in body)))
     (measured : length body ≡ 4 * measurement_words → P measurement_type (Typed (Measured (measurement_in body))))
     (loss : length body ≡ 4 * loss_words → Good specific body → P loss_type (Typed (Loss (loss_in specific body))))
@@ -51,17 +53,17 @@ module _ (specific : ℕ) (body : List ℕ) (P : ℕ → BlockRead → Type 0)
   by_size : (type words : ℕ) (a : BlockRead) → (length body ≡ 4 * words → P type a) → P type (sized words body a)
   by_size type words a good = go (eqb (length body) (4 * words)) (eqb-true (length body) (4 * words))
     where
-      go : (t : Bool) → (t ≡ true → length body ≡ 4 * words) → P type (unless t (Dropped bad_size) a)
+      go : (t : Bool) → (t ≡ true → length body ≡ 4 * words) → P type (unless t (Dropped BadSize) a)
       go true is = good (is refl)
-      go false is = dropped type bad_size (omega arith, omega arith, λ e. omega arith)
+      go false is = dropped type BadSize (omega arith, omega arith, λ e. let z : ◌≡◌ {A = ℕ} 0 1 = cc in omega arith)
 
   by_summary : (type : ℕ) (b : Block) → (Good specific body → P type (Typed b)) → P type (summary_read (flag_in specific) (be16 body 4) (be16 body 6) b)
   unfolding summary_read summary_good
   by_summary type b good = go (flag_good (flag_in specific)) (rate_good (be16 body 4) && rate_good (be16 body 6)) good
     where
-      go : (f r : Bool) → ((f && r) ≡ true → P type (Typed b)) → P type (unless f (Dropped bad_flag) (unless r (Dropped bad_rate) (Typed b)))
-      go false r is = dropped type bad_flag (omega arith, omega arith, λ e. omega arith)
-      go true false is = dropped type bad_rate (omega arith, omega arith, λ e. omega arith)
+      go : (f r : Bool) → ((f && r) ≡ true → P type (Typed b)) → P type (unless f (Dropped BadFlag) (unless r (Dropped BadRate) (Typed b)))
+      go false r is = dropped type BadFlag (omega arith, omega arith, λ e. let z : ◌≡◌ {A = ℕ} 0 1 = cc in omega arith)
+      go true false is = dropped type BadRate (omega arith, omega arith, λ e. let z : ◌≡◌ {A = ℕ} 0 1 = cc in omega arith)
       go true true is = is refl
 
   by_rle : P rle_type (read_rle specific body)
@@ -69,10 +71,10 @@ module _ (specific : ℕ) (body : List ℕ) (P : ℕ → BlockRead → Type 0)
   by_rle = go (rle_sized body) (eqb (thinning_in specific) 0) (rle_covered body) rle
     where
       go : (s t c : Bool) → ((s ≡ true) × (t ≡ true) × (c ≡ true) → P rle_type (Rle (rle_in body))) →
-          P rle_type (unless s (Dropped bad_size) (unless t (Dropped bad_flag) (unless c (Dropped bad_chunks) (Rle (rle_in body)))))
-      go false t c is = dropped rle_type bad_size (omega arith, omega arith, λ e. omega arith)
-      go true false c is = dropped rle_type bad_flag (omega arith, omega arith, λ e. omega arith)
-      go true true false is = dropped rle_type bad_chunks (omega arith, omega arith, λ e. omega arith)
+          P rle_type (unless s (Dropped BadSize) (unless t (Dropped BadFlag) (unless c (Dropped BadChunks) (Rle (rle_in body)))))
+      go false t c is = dropped rle_type BadSize (omega arith, omega arith, λ e. let z : ◌≡◌ {A = ℕ} 0 1 = cc in omega arith)
+      go true false c is = dropped rle_type BadFlag (omega arith, omega arith, λ e. let z : ◌≡◌ {A = ℕ} 0 1 = cc in omega arith)
+      go true true false is = dropped rle_type BadChunks (omega arith, omega arith, λ e. let z : ◌≡◌ {A = ℕ} 0 1 = cc in omega arith)
       go true true true is = is (refl, refl, refl)
 
   pub answers : (type : ℕ) → P type (read_block type specific body)

@@ -7,13 +7,13 @@ use Rattle.block.specs.declared.Block.{Block}
 use Rattle.block.specs.declared.Block.TheVariants.{Measured, Loss, Discard, Effective, Streams}
 use Rattle.block.specs.declared.BlockRead.{BlockRead}
 use Rattle.block.specs.declared.BlockRead.TheVariants.{Typed, Rle, Unknown, Dropped}
-use Rattle.block.specs.declared.Measures.TheVariants.{Source, Nothing}
 use Rattle.block.specs.Types.{measurement_type, measurement_words}
 use Rattle.block.specs.Layouts.{measurement_in}
 use Rattle.block.specs.Reading.{read_measurement, read_block, read_bytes, measures_of}
 use Rattle.block.specs.Laws.{OwnReason, OwnReasons, MeasuredFor, MeasuresExactly}
 use Rattle.block.proofs.Cells.{in_cells}
 use Rattle.block.proofs.Cases.{answers}
+use Rattle.std.specs.Prelude.{Some, None}
 
 pub own_reasons : OwnReasons
 own_reasons type specific body reason =
@@ -29,31 +29,31 @@ own_reasons type specific body reason =
 
 -- no source: a type other than 14, or another size
 pub measures_nothing : (bytes : List ℕ) → (length bytes ≡ 4 + 4 * measurement_words → get_or bytes 0 0 ≡ measurement_type → ⊥) →
-    Nothing ≡ measures_of (read_bytes bytes)
+    None ≡ measures_of (read_bytes bytes)
 unfolding read_bytes
 measures_nothing bytes other = go (leb 4 (length bytes))
   where
-    go : (t : Bool) → Nothing ≡ measures_of (unless t Unknown (read_block (get_or bytes 0 0) (get_or bytes 1 0) (drop 4 bytes)))
+    go : (t : Bool) → None ≡ measures_of (unless t Unknown (read_block (get_or bytes 0 0) (get_or bytes 1 0) (drop 4 bytes)))
     go false = refl
     go true =
-        answers (get_or bytes 1 0) (drop 4 bytes) (λ t a. t ≡ get_or bytes 0 0 → Nothing ≡ measures_of a)
+        answers (get_or bytes 1 0) (drop 4 bytes) (λ t a. t ≡ get_or bytes 0 0 → None ≡ measures_of a)
         (λ t h. refl) (λ t r own h. refl) (λ good h. refl)
         (λ s h. absurd (other (omega (arith, length-drop 4 bytes)) (omega arith)))
         (λ s g h. refl) (λ s g h. refl) (λ s h. refl) (λ s h. refl)
         (get_or bytes 0 0) refl
 
 pub measures_source : (bytes : List ℕ) → length bytes ≡ 4 + 4 * measurement_words → get_or bytes 0 0 ≡ measurement_type →
-    Source (u32_at bytes 4) ≡ measures_of (read_bytes bytes)
+    Some (u32_at bytes 4) ≡ measures_of (read_bytes bytes)
 unfolding read_bytes read_block read_measurement measurement_in u32_at be32 be16
 measures_source bytes size first = rw (first, in_cells (4 + 4 * measurement_words) bytes size)
 
 pub measures_exactly : MeasuresExactly
-measures_exactly answer x = (measured answer, λ f. rw f.typed (ap Source f.source))
+measures_exactly answer x = (measured answer, λ f. rw f.typed (ap Some f.source))
   where
-    none : (a : BlockRead) → Nothing ≡ Source x → MeasuredFor a x
+    none : (a : BlockRead) → None ≡ Some x → MeasuredFor a x
     none a h = let z : ◌≡◌ {A = ℕ} 0 1 = cc in absurd (omega arith)
 
-    measured : (a : BlockRead) → measures_of a ≡ Source x → MeasuredFor a x
+    measured : (a : BlockRead) → measures_of a ≡ Some x → MeasuredFor a x
     measured (Typed (Measured m)) h = record { block = m; typed = refl; source = cc }
     measured (Typed (Loss l)) h = none _ h
     measured (Typed (Discard d)) h = none _ h

@@ -16,6 +16,7 @@ use Rattle.block.specs.Layouts.{covered, thinning_in, interval_in, chunks_of, rl
 use Rattle.block.specs.Reading.{rle_sized, rle_covered, read_rle, read_block}
 use Rattle.block.specs.Laws.{IsRle, RleExactly, D1Exactly, D2Exactly, SizedPlain, D5Exactly, RleTraceLaw}
 use Rattle.block.proofs.Cases.{GoodRle, answers}
+use Rattle.block.specs.declared.Reason.TheVariants.{BadSize, BadFlag, BadChunks}
 
 -- a type 1 is read by its own reader
 pub rle_read : (specific : ℕ) (body : List ℕ) → read_block rle_type specific body ≡ read_rle specific body
@@ -52,7 +53,7 @@ sized_plain : (specific : ℕ) (body : List ℕ) → SizedPlain specific body �
 sized_plain specific body u =
     (both (leb rle_head (length body)) (eqb (length body % 4) 0) (le-leb rle_head (length body) u.some) (eq-eqb (length body % 4) 0 u.whole), eq-eqb (thinning_in specific) 0 u.plain)
 
-by_chunks : (specific : ℕ) (body : List ℕ) → SizedPlain specific body → read_block rle_type specific body ≡ unless (rle_covered body) (Dropped bad_chunks) (Rle (rle_in body))
+by_chunks : (specific : ℕ) (body : List ℕ) → SizedPlain specific body → read_block rle_type specific body ≡ unless (rle_covered body) (Dropped BadChunks) (Rle (rle_in body))
 unfolding read_rle
 by_chunks specific body u = let t = sized_plain specific body u in rle_read specific body ∙ rw (t.0, t.1)
 
@@ -96,17 +97,17 @@ d5_exactly specific body u = (λ h. there (dec_le n interval_max) (covers n cs) 
     cs : List ℕ
     cs = chunks_of body
 
-    there : Dec (n ≤ interval_max) → (t : Bool) → covers n cs ≡ t → unless (rle_covered body) (Dropped bad_chunks) (Rle (rle_in body)) ≡ Dropped bad_chunks →
+    there : Dec (n ≤ interval_max) → (t : Bool) → covers n cs ≡ t → unless (rle_covered body) (Dropped BadChunks) (Rle (rle_in body)) ≡ Dropped BadChunks →
         (interval_max < n) ⊎ Cause n cs
     there (no long) t e h = inl (omega arith)
     there (yes fits) false e h = inr ((uncovered_exactly n cs).0 e)
-    there (yes fits) true e h = let other : Rle (rle_in body) ≡ Dropped bad_chunks = rw (le-leb n interval_max fits, e) at h in let z : ◌≡◌ {A = ℕ} 0 1 = cc in absurd (omega arith)
+    there (yes fits) true e h = let other : Rle (rle_in body) ≡ Dropped BadChunks = rw (le-leb n interval_max fits, e) at h in let z : ◌≡◌ {A = ℕ} 0 1 = cc in absurd (omega arith)
 
-    back : (interval_max < n) ⊎ Cause n cs → unless (rle_covered body) (Dropped bad_chunks) (Rle (rle_in body)) ≡ Dropped bad_chunks
+    back : (interval_max < n) ⊎ Cause n cs → unless (rle_covered body) (Dropped BadChunks) (Rle (rle_in body)) ≡ Dropped BadChunks
     back (inl long) = rw (lt-leb n interval_max long)
     back (inr cause) = go (leb n interval_max)
       where
-        go : (t : Bool) → unless (t && covers n cs) (Dropped bad_chunks) (Rle (rle_in body)) ≡ Dropped bad_chunks
+        go : (t : Bool) → unless (t && covers n cs) (Dropped BadChunks) (Rle (rle_in body)) ≡ Dropped BadChunks
         go true = rw ((uncovered_exactly n cs).1 cause)
         go false = refl
 
@@ -124,21 +125,21 @@ rle_trace type specific body r h =
 -- the reasons before: which test failed, and what that says
 module _ (specific : ℕ) (body : List ℕ) where
   abbrev chain : Bool → Bool → Bool → BlockRead
-  chain s t c = unless s (Dropped bad_size) (unless t (Dropped bad_flag) (unless c (Dropped bad_chunks) (Rle (rle_in body))))
+  chain s t c = unless s (Dropped BadSize) (unless t (Dropped BadFlag) (unless c (Dropped BadChunks) (Rle (rle_in body))))
 
   chained : read_block rle_type specific body ≡ chain (rle_sized body) (eqb (thinning_in specific) 0) (rle_covered body)
   unfolding read_rle
   chained = rle_read specific body
 
-  size_failed : (s t c : Bool) → chain s t c ≡ Dropped bad_size → s ≡ false
+  size_failed : (s t c : Bool) → chain s t c ≡ Dropped BadSize → s ≡ false
   size_failed false t c h = refl
-  size_failed true false c h = let z : ◌≡◌ {A = ℕ} bad_flag bad_size = cc in absurd (omega arith)
-  size_failed true true false h = let z : ◌≡◌ {A = ℕ} bad_chunks bad_size = cc in absurd (omega arith)
+  size_failed true false c h = let z : ◌≡◌ {A = ℕ} 0 1 = cc in absurd (omega arith)
+  size_failed true true false h = let z : ◌≡◌ {A = ℕ} 0 1 = cc in absurd (omega arith)
   size_failed true true true h = let z : ◌≡◌ {A = ℕ} 0 1 = cc in absurd (omega arith)
 
-  thinning_failed : (t c : Bool) → chain true t c ≡ Dropped bad_flag → t ≡ false
+  thinning_failed : (t c : Bool) → chain true t c ≡ Dropped BadFlag → t ≡ false
   thinning_failed false c h = refl
-  thinning_failed true false h = let z : ◌≡◌ {A = ℕ} bad_chunks bad_flag = cc in absurd (omega arith)
+  thinning_failed true false h = let z : ◌≡◌ {A = ℕ} 0 1 = cc in absurd (omega arith)
   thinning_failed true true h = let z : ◌≡◌ {A = ℕ} 0 1 = cc in absurd (omega arith)
 
 pub d1_exactly : D1Exactly

@@ -1,5 +1,5 @@
 -- What callers may lean on, as statements about the definitions that the readers promise. Proved in proofs/.
-use Rattle.std.specs.Prelude.{◌≡◌, ℕ, ◌%◌, ◌<◌, ◌≤◌, ◌⊎◌, ◌↔◌, List, length, ◌≢◌, slice_index}
+use Rattle.std.specs.Prelude.{◌≡◌, ℕ, ◌%◌, ◌<◌, ◌≤◌, ◌⊎◌, ◌↔◌, List, length, ◌≢◌, slice_index, Some}
 use Rattle.trace.specs.Trace.{lost}
 use Rattle.wire.specs.BigEndian.{be16, be32}
 use Rattle.chunk.specs.Chunks.{lost_in}
@@ -9,19 +9,20 @@ use Rattle.block.specs.declared.LossRle.{LossRle}
 use Rattle.block.specs.declared.Block.TheVariants.{Measured}
 use Rattle.block.specs.declared.BlockRead.{BlockRead}
 use Rattle.block.specs.declared.BlockRead.TheVariants.{Typed, Rle, Dropped}
-use Rattle.block.specs.declared.Measures.TheVariants.{Source}
-use Rattle.block.specs.Types.{rle_type, rle_head, interval_max, bad_size, bad_flag, unmeasured, bad_chunks}
+use Rattle.block.specs.Types.{rle_type, rle_head, interval_max, bad_size, bad_chunks, reason_number}
 use Rattle.block.specs.Layouts.{covered, thinning_in, interval_in, chunks_of, trace_of}
 use Rattle.block.specs.Reading.{read_block, measures_of}
 use Rattle.block.specs.Reserved.{cleared_byte, cleared_body}
+use Rattle.block.specs.declared.Reason.{Reason}
+use Rattle.block.specs.declared.Reason.TheVariants.{BadSize, BadFlag, Unmeasured, BadChunks}
 
 -- A block read by itself is dropped for D1, D2, D3 or D5, never for D4.
-abbrev pub OwnReason : ℕ → Type 0
-OwnReason reason = (bad_size ≤ reason) × (reason ≤ bad_chunks) × (reason ≢ unmeasured)
+abbrev pub OwnReason : Reason → Type 0
+OwnReason reason = (bad_size ≤ reason_number reason) × (reason_number reason ≤ bad_chunks) × (reason ≢ Unmeasured)
 
 abbrev pub OwnReasons : Type 0
 OwnReasons =
-    (type specific : ℕ) (body : List ℕ) (reason : ℕ) → read_block type specific body ≡ Dropped reason → OwnReason reason
+    (type specific : ℕ) (body : List ℕ) (reason : Reason) → read_block type specific body ≡ Dropped reason → OwnReason reason
 
 -- Two blocks that differ in reserved bits alone read the same.
 abbrev pub ReservedIgnored : Type 0
@@ -38,7 +39,7 @@ pub record MeasuredFor (answer : BlockRead) (x : ℕ) : Type 0 where
 -- A source is measured exactly where the answer is a 14 for it.
 abbrev pub MeasuresExactly : Type 0
 MeasuresExactly =
-    (answer : BlockRead) (x : ℕ) → (measures_of answer ≡ Source x → MeasuredFor answer x) × (MeasuredFor answer x → measures_of answer ≡ Source x)
+    (answer : BlockRead) (x : ℕ) → (measures_of answer ≡ Some x → MeasuredFor answer x) × (MeasuredFor answer x → measures_of answer ≡ Some x)
 
 -- A block reads as Loss RLE exactly where its bytes say so: type 1, two words and more, all whole, no thinning, and an interval in
 -- range that its chunks cover; source, begin and end stand in their places, and the lost are those of its trace.
@@ -59,11 +60,11 @@ RleExactly = (type specific : ℕ) (body : List ℕ) (r : LossRle) → (read_blo
 
 -- "a bad one is dropped as D1 (fewer than two words, or not whole words), D2 (thinning not 0) or D5", the first that applies
 abbrev pub D1Exactly : Type 0
-D1Exactly = (specific : ℕ) (body : List ℕ) → (read_block rle_type specific body ≡ Dropped bad_size) ↔ ((length body < rle_head) ⊎ (length body % 4 ≢ 0))
+D1Exactly = (specific : ℕ) (body : List ℕ) → (read_block rle_type specific body ≡ Dropped BadSize) ↔ ((length body < rle_head) ⊎ (length body % 4 ≢ 0))
 
 abbrev pub D2Exactly : Type 0
 D2Exactly =
-    (specific : ℕ) (body : List ℕ) → rle_head ≤ length body → length body % 4 ≡ 0 → (read_block rle_type specific body ≡ Dropped bad_flag) ↔ (thinning_in specific ≢ 0)
+    (specific : ℕ) (body : List ℕ) → rle_head ≤ length body → length body % 4 ≡ 0 → (read_block rle_type specific body ≡ Dropped BadFlag) ↔ (thinning_in specific ≢ 0)
 
 -- "D5 (an interval over 65,533, a null chunk before the end, chunks cover too little, or a chunk other than null follows the
 -- end)": of a type 1 of whole words without thinning, exactly for one of the four.
@@ -75,7 +76,7 @@ pub record SizedPlain (specific : ℕ) (body : List ℕ) : Type 0 where
 abbrev pub D5Exactly : Type 0
 D5Exactly =
     (specific : ℕ) (body : List ℕ) → SizedPlain specific body →
-    (read_block rle_type specific body ≡ Dropped bad_chunks) ↔ ((interval_max < interval_in body) ⊎ Cause (interval_in body) (chunks_of body))
+    (read_block rle_type specific body ≡ Dropped BadChunks) ↔ ((interval_max < interval_in body) ⊎ Cause (interval_in body) (chunks_of body))
 
 -- The lost of a good type 1 are the ones of the trace that is read out, which has as many packets as the interval.
 pub record RleTrace (body : List ℕ) (r : LossRle) : Type 0 where

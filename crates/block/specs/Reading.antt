@@ -3,7 +3,7 @@
 -- another size, and never gives D4." Reasons, the first that applies: D1, D2, D3; of a type 1 D1,
 -- D2, D5. A good type 1 is a fourth kind of answer:
 -- document 02, ticket 5.
-use Rattle.std.specs.Prelude.{ℕ, ◌*◌, ◌%◌, Bool, cond, ◌&&◌, ◌||◌, List, length, drop, ◌==◌, nat_le, slice_index}
+use Rattle.std.specs.Prelude.{ℕ, ◌*◌, ◌%◌, Bool, cond, ◌&&◌, ◌||◌, List, length, drop, ◌==◌, nat_le, slice_index, Option, Some, None}
 use Rattle.refusal.specs.Answer.{unless}
 use Rattle.wire.specs.BigEndian.{be16}
 use Rattle.chunk.specs.Chunks.{covers}
@@ -11,12 +11,9 @@ use Rattle.block.specs.declared.Block.{Block}
 use Rattle.block.specs.declared.Block.TheVariants.{Measured, Loss, Discard, Effective, Streams}
 use Rattle.block.specs.declared.BlockRead.{BlockRead}
 use Rattle.block.specs.declared.BlockRead.TheVariants.{Typed, Rle, Unknown, Dropped}
-use Rattle.block.specs.declared.Needs.{Needs}
-use Rattle.block.specs.declared.Needs.TheVariants.{Nothing, MeasurementOf}
-use Rattle.block.specs.declared.Measures.{Measures}
-use Rattle.block.specs.declared.Measures.TheVariants.{Source, Nothing as Measures-as-Nothing}
-use Rattle.block.specs.Types.{rle_type, measurement_type, loss_type, discard_type, effective_type, streams_type, measurement_words, loss_words, discard_words, effective_words, streams_words, rle_head, interval_max, bad_size, bad_flag, bad_rate, bad_chunks}
+use Rattle.block.specs.Types.{rle_type, measurement_type, loss_type, discard_type, effective_type, streams_type, measurement_words, loss_words, discard_words, effective_words, streams_words, rle_head, interval_max}
 use Rattle.block.specs.Layouts.{measurement_in, flag_in, loss_in, discard_in, effective_in, streams_in, thinning_in, interval_in, chunks_of, rle_in}
+use Rattle.block.specs.declared.Reason.TheVariants.{BadSize, BadFlag, BadRate, BadChunks}
 
 -- "Rates are 0 to 32,768, or 65,535 for unavailable."
 abbrev pub rate_max : ℕ
@@ -41,13 +38,13 @@ summary_good flag burst gap = flag_good flag && rates_good burst gap
 
 -- D1
 abbrev pub sized : ℕ → List ℕ → BlockRead → BlockRead
-sized words body answer = unless (length body == 4 * words) (Dropped bad_size) answer
+sized words body answer = unless (length body == 4 * words) (Dropped BadSize) answer
 
 -- a 17 or 18 of its size with this flag and these rates: D2, then D3, then the block
 unfoldable pub summary_read : ℕ → ℕ → ℕ → Block → BlockRead
 summary_read flag burst gap b =
-    unless (flag_good flag) (Dropped bad_flag)
-    (unless (rates_good burst gap) (Dropped bad_rate)
+    unless (flag_good flag) (Dropped BadFlag)
+    (unless (rates_good burst gap) (Dropped BadRate)
     (Typed b))
 
 unfoldable pub read_measurement : List ℕ → BlockRead
@@ -74,9 +71,9 @@ rle_covered body = nat_le (interval_in body) interval_max && covers (interval_in
 
 unfoldable pub read_rle : ℕ → List ℕ → BlockRead
 read_rle specific body =
-    unless (rle_sized body) (Dropped bad_size)
-    (unless (thinning_in specific == 0) (Dropped bad_flag)
-    (unless (rle_covered body) (Dropped bad_chunks)
+    unless (rle_sized body) (Dropped BadSize)
+    (unless (thinning_in specific == 0) (Dropped BadFlag)
+    (unless (rle_covered body) (Dropped BadChunks)
     (Rle (rle_in body))))
 
 unfoldable pub read_block : ℕ → ℕ → List ℕ → BlockRead
@@ -94,20 +91,20 @@ unfoldable pub read_bytes : List ℕ → BlockRead
 read_bytes bytes = unless (nat_le 4 (length bytes)) Unknown (read_block (slice_index bytes 0) (slice_index bytes 1) (drop 4 bytes))
 
 -- what a typed block needs in its packet: a 17 or 18 needs a block 14 for its source (D4)
-abbrev pub needs_of : Block → Needs
-needs_of (Measured m) = Nothing
-needs_of (Loss l) = MeasurementOf l.source
-needs_of (Discard d) = MeasurementOf d.source
-needs_of (Effective e) = Nothing
-needs_of (Streams t) = Nothing
+abbrev pub needs_of : Block → Option ℕ
+needs_of (Measured m) = None
+needs_of (Loss l) = Some l.source
+needs_of (Discard d) = Some d.source
+needs_of (Effective e) = None
+needs_of (Streams t) = None
 
 -- what a block measures: the source of a well-sized 14
-abbrev pub measures_of : BlockRead → Measures
-measures_of (Typed (Measured m)) = Source m.source
-measures_of (Typed (Loss l)) = Measures-as-Nothing
-measures_of (Typed (Discard d)) = Measures-as-Nothing
-measures_of (Typed (Effective e)) = Measures-as-Nothing
-measures_of (Typed (Streams t)) = Measures-as-Nothing
-measures_of (Rle r) = Measures-as-Nothing
-measures_of Unknown = Measures-as-Nothing
-measures_of (Dropped reason) = Measures-as-Nothing
+abbrev pub measures_of : BlockRead → Option ℕ
+measures_of (Typed (Measured m)) = Some m.source
+measures_of (Typed (Loss l)) = None
+measures_of (Typed (Discard d)) = None
+measures_of (Typed (Effective e)) = None
+measures_of (Typed (Streams t)) = None
+measures_of (Rle r) = None
+measures_of Unknown = None
+measures_of (Dropped reason) = None

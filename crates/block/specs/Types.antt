@@ -2,6 +2,8 @@
 -- last two; 240 and 241 are ours. Document 002 prints block length 3 for three words, which by RFC 3611 is 2. And type 1,
 -- Loss RLE, of no fixed size: document 02, ticket 5.
 use Rattle.std.specs.Prelude.{ℕ}
+use Rattle.block.specs.declared.Reason.{Reason}
+use Rattle.block.specs.declared.Reason.TheVariants.{BadSize, BadFlag, BadRate, Unmeasured, BadChunks}
 
 abbrev pub rle_type : ℕ
 rle_type = 1
@@ -63,3 +65,11 @@ unmeasured = 4
 
 abbrev pub bad_chunks : ℕ
 bad_chunks = 5
+
+-- a reason by its number
+abbrev pub reason_number : Reason → ℕ
+reason_number BadSize = bad_size
+reason_number BadFlag = bad_flag
+reason_number BadRate = bad_rate
+reason_number Unmeasured = unmeasured
+reason_number BadChunks = bad_chunks

@@ -3,10 +3,10 @@
 #![tactic(auto)]
 
 ghost use Rattle.std.specs.Prelude.{◌≡◌};
+ghost use Rattle.block.specs.Types.{reason_number};
 ghost use Rattle.block.specs.Layouts.{covered};
 ghost use Rattle.block.specs.Reading.{rate_good, rates_good, flag_good, summary_good, summary_read, read_measurement, read_loss, read_discard, read_effective, read_streams, read_rle, read_block, read_bytes, needs_of, measures_of};
 
-use chunk::Counted;
 use std::num::wrapping_sub_u16;
 
 pub const RLE: u8 = 1;
@@ -48,17 +48,6 @@ pub const RLE_HEAD: usize = 8;
 
 // The longest interval of a type 1, in packets.
 pub const INTERVAL_MAX: u16 = 65_533;
-
-// The reasons to drop a block, D1 to D5. D2 is the interval flag of a 17 or 18, and the thinning of a type 1.
-pub const BAD_SIZE: u8 = 1;
-
-pub const BAD_FLAG: u8 = 2;
-
-pub const BAD_RATE: u8 = 3;
-
-pub const UNMEASURED: u8 = 4;
-
-pub const BAD_CHUNKS: u8 = 5;
 
 // The highest rate: every packet an event.
 pub const RATE_MAX: u16 = 32_768;
@@ -216,6 +205,25 @@ pub struct LossRle {
     pub lost: u16, // packets of the interval that are lost
 }
 
+// Why a block is dropped, D1 to D5. D2 is the interval flag of a 17 or 18, and the thinning of a type 1.
+#[derive(Clone, Copy, Debug, PartialEq, Eq)]
+pub enum Reason {
+    BadSize = 1,
+    BadFlag = 2,
+    BadRate = 3,
+    Unmeasured = 4,
+    BadChunks = 5,
+}
+
+// The number of a reason.
+impl From<Reason> for u8 {
+    ghost from_gives = { λ reason number. number ≡ reason_number reason };
+
+    fn from(reason: Reason) -> u8 {
+        reason as u8
+    }
+}
+
 #[derive(Clone, Copy)]
 pub enum Block {
     Measured(Measurement),
@@ -225,27 +233,13 @@ pub enum Block {
     Streams(StreamCounts),
 }
 
-// What reading a block answers; a dropped block has its reason.
+// What reading a block answers.
 #[derive(Clone, Copy)]
 pub enum BlockRead {
     Typed(Block),
     Rle(LossRle),
     Unknown,
-    Dropped(u8),
-}
-
-// What a typed block needs in its packet: nothing, or a measurement block for this source.
-#[derive(Clone, Copy)]
-pub enum Needs {
-    Nothing,
-    MeasurementOf(u32),
-}
-
-// What a block measures: the source of a well-sized block 14.
-#[derive(Clone, Copy)]
-pub enum Measures {
-    Source(u32),
-    Nothing,
+    Dropped(Reason),
 }
 
 // One block by itself, from its type, type-specific byte and body.
@@ -277,7 +271,7 @@ fn read_measurement(body: &[u8]) -> BlockRead
     ensures { result ≡ read_measurement body.now }
 {
     if body.len() != MEASUREMENT_BYTES {
-        return BlockRead::Dropped(BAD_SIZE);
+        return BlockRead::Dropped(Reason::BadSize);
     }
     BlockRead::Typed(Block::Measured(Measurement {
         source: wire::u32_at(body, 0),
@@ -294,7 +288,7 @@ fn read_loss(specific: u8, body: &[u8]) -> BlockRead
     ensures { result ≡ read_loss specific body.now }
 {
     if body.len() != LOSS_BYTES {
-        return BlockRead::Dropped(BAD_SIZE);
+        return BlockRead::Dropped(Reason::BadSize);
     }
     let l = LossSummary {
         flag: specific / 64,
@@ -311,7 +305,7 @@ fn read_discard(specific: u8, body: &[u8]) -> BlockRead
     ensures { result ≡ read_discard specific body.now }
 {
     if body.len() != DISCARD_BYTES {
-        return BlockRead::Dropped(BAD_SIZE);
+        return BlockRead::Dropped(Reason::BadSize);
     }
     let d = DiscardSummary {
         flag: specific / 64,
@@ -326,7 +320,7 @@ fn read_effective(body: &[u8]) -> BlockRead
     ensures { result ≡ read_effective body.now }
 {
     if body.len() != EFFECTIVE_BYTES {
-        return BlockRead::Dropped(BAD_SIZE);
+        return BlockRead::Dropped(Reason::BadSize);
     }
     BlockRead::Typed(Block::Effective(EffectiveSummary {
         source: wire::u32_at(body, 0),
@@ -338,7 +332,7 @@ fn read_streams(body: &[u8]) -> BlockRead
     ensures { result ≡ read_streams body.now }
 {
     if body.len() != STREAMS_BYTES {
-        return BlockRead::Dropped(BAD_SIZE);
+        return BlockRead::Dropped(Reason::BadSize);
     }
     BlockRead::Typed(Block::Streams(StreamCounts {
         source: wire::u32_at(body, 0),
@@ -361,29 +355,29 @@ pub fn read_rle(specific: u8, body: &[u8]) -> BlockRead
     ensures { result ≡ read_rle specific body.now }
 {
     if body.len() < RLE_HEAD {
-        return BlockRead::Dropped(BAD_SIZE);
+        return BlockRead::Dropped(Reason::BadSize);
     }
     if body.len() % 4 != 0 {
-        return BlockRead::Dropped(BAD_SIZE);
+        return BlockRead::Dropped(Reason::BadSize);
     }
     if specific % 16 != 0 {
-        return BlockRead::Dropped(BAD_FLAG);
+        return BlockRead::Dropped(Reason::BadFlag);
     }
     let begin = wire::u16_at(body, 4);
     let end = wire::u16_at(body, 6);
     let interval = packets_covered(begin, end);
     if INTERVAL_MAX < interval {
-        return BlockRead::Dropped(BAD_CHUNKS);
+        return BlockRead::Dropped(Reason::BadChunks);
     }
-    match chunk::count(&body[RLE_HEAD..], interval as usize) {
-        Counted::Lost(lost) => BlockRead::Rle(LossRle {
-            source: wire::u32_at(body, 0),
-            begin,
-            end,
-            lost: lost as u16,
-        }),
-        Counted::Uncovered => BlockRead::Dropped(BAD_CHUNKS),
-    }
+    let Some(lost) = chunk::count(&body[RLE_HEAD..], interval as usize) else {
+        return BlockRead::Dropped(Reason::BadChunks);
+    };
+    BlockRead::Rle(LossRle {
+        source: wire::u32_at(body, 0),
+        begin,
+        end,
+        lost: lost as u16,
+    })
 }
 
 // A 17 or 18 of its size, with this interval flag and these rates: dropped for D2 or D3, or typed.
@@ -391,10 +385,10 @@ fn judge_summary(flag: u8, burst_rate: u16, gap_rate: u16, b: Block) -> BlockRea
     ensures { result ≡ summary_read flag burst_rate gap_rate b }
 {
     if !flag_good(flag) {
-        return BlockRead::Dropped(BAD_FLAG);
+        return BlockRead::Dropped(Reason::BadFlag);
     }
     if !rates_good(burst_rate, gap_rate) {
-        return BlockRead::Dropped(BAD_RATE);
+        return BlockRead::Dropped(Reason::BadRate);
     }
     BlockRead::Typed(b)
 }
@@ -427,27 +421,27 @@ fn rate_good(r: u16) -> bool
 }
 
 // What a typed block needs in its packet.
-pub fn needed_by(b: Block) -> Needs
+pub fn needed_by(b: Block) -> Option<u32>
     ensures { result ≡ needs_of b }
 {
     match b {
-        Block::Loss(l) => Needs::MeasurementOf(l.source),
-        Block::Discard(d) => Needs::MeasurementOf(d.source),
-        _ => Needs::Nothing,
+        Block::Loss(l) => Some(l.source),
+        Block::Discard(d) => Some(d.source),
+        _ => None,
     }
 }
 
 // What a block with these bytes measures. It is asked of every block of a packet, so it reads the source alone.
-pub fn measured_by(bytes: &[u8]) -> Measures
+pub fn measured_by(bytes: &[u8]) -> Option<u32>
     ensures { result ≡ measures_of (read_bytes bytes.now) }
 {
     if bytes.len() != 4 + MEASUREMENT_BYTES {
-        return Measures::Nothing;
+        return None;
     }
     if bytes[0] != MEASUREMENT {
-        return Measures::Nothing;
+        return None;
     }
-    Measures::Source(wire::u32_at(bytes, 4))
+    Some(wire::u32_at(bytes, 4))
 }
 
 // The packets that a block 1 or 241 covers, over the wrap of 16-bit sequence numbers.

@@ -14,12 +14,12 @@ use Rattle.refusal.specs.Answer.{unless}
 use Rattle.trace.specs.Trace.{counted_at}
 use Rattle.trace.specs.declared.Event.TheVariants.{Lost as Event-as-Lost}
 use Rattle.trace.proofs.Sums.{count_most}
-use Rattle.chunk.specs.declared.Counted.TheVariants.{Lost, Uncovered}
 use Rattle.chunk.specs.Chunks.{packets_of, packets_in, stands_at, covers, trace_in, lost_in, chunks_in}
 use Rattle.chunk.specs.Counting.{count_of}
 use Rattle.chunk.specs.Steps.{Taken}
 use Rattle.chunk.proofs.Bytes.{chunks_next, chunks_end}
 use Rattle.chunk.proofs.Traces.{lost_append, take_both, take_most}
+use Rattle.std.specs.Prelude.{Some, None}
 
 -- no more of n packets are lost than n
 pub lost_most : (n : ℕ) (cs : List ℕ) → lost_in (trace_in n cs) ≤ n
@@ -28,19 +28,19 @@ lost_most n cs =
     omega (arith, count_most (counted_at Event-as-Lost trace) 0 (length trace), length-take n (packets_in cs))
 
 module _ (n : ℕ) (cs : List ℕ) where
-  pub counted_lost : (k : ℕ) → count_of n cs ≡ Lost k → (covers n cs ≡ true) × (lost_in (trace_in n cs) ≡ k)
+  pub counted_lost : (k : ℕ) → count_of n cs ≡ Some k → (covers n cs ≡ true) × (lost_in (trace_in n cs) ≡ k)
   unfolding count_of
   counted_lost k h = go (covers n cs) refl h
     where
-      go : (t : Bool) → covers n cs ≡ t → unless t Uncovered (Lost (lost_in (trace_in n cs))) ≡ Lost k → (covers n cs ≡ true) × (lost_in (trace_in n cs) ≡ k)
+      go : (t : Bool) → covers n cs ≡ t → unless t None (Some (lost_in (trace_in n cs))) ≡ Some k → (covers n cs ≡ true) × (lost_in (trace_in n cs) ≡ k)
       go true e h = (e, cc)
       go false e h = let z : ◌≡◌ {A = ℕ} 0 1 = cc in absurd (omega arith)
 
-  pub counted_not : count_of n cs ≡ Uncovered → covers n cs ≡ false
+  pub counted_not : count_of n cs ≡ None → covers n cs ≡ false
   unfolding count_of
   counted_not h = go (covers n cs) refl h
     where
-      go : (t : Bool) → covers n cs ≡ t → unless t Uncovered (Lost (lost_in (trace_in n cs))) ≡ Uncovered → covers n cs ≡ false
+      go : (t : Bool) → covers n cs ≡ t → unless t None (Some (lost_in (trace_in n cs))) ≡ None → covers n cs ≡ false
       go true e h = let z : ◌≡◌ {A = ℕ} 0 1 = cc in absurd (omega arith)
       go false e h = e
 
@@ -56,7 +56,7 @@ pub counting_none : (s : List ℕ) (n : ℕ) → Counting s n n 0 0 0
 counting_none s n = record { within = omega arith; few = omega arith; row = omega arith; covered = refl; losses = omega arith }
 
 module _ (s : List ℕ) (n left lost i since : ℕ) (g : Counting s n left lost i since) where
-  pub counting_bad : covers left (chunks_in (drop i s)) ≡ false → Uncovered ≡ count_of n (chunks_in s)
+  pub counting_bad : covers left (chunks_in (drop i s)) ≡ false → None ≡ count_of n (chunks_in s)
   unfolding count_of
   counting_bad bad = rw (g.covered, bad)
 
@@ -74,11 +74,11 @@ module _ (s : List ℕ) (n left lost i since : ℕ) (g : Counting s n left lost 
         losses = g.losses ∙ ap (λ (x : ℕ). lost + x) t.losses ∙ (omega arith);
       }
 
-  pub counting_done : left ≡ 0 → covers 0 (chunks_in (drop i s)) ≡ true → Lost lost ≡ count_of n (chunks_in s)
+  pub counting_done : left ≡ 0 → covers 0 (chunks_in (drop i s)) ≡ true → Some lost ≡ count_of n (chunks_in s)
   unfolding count_of sum
   counting_done none good =
       let covered : covers left (chunks_in (drop i s)) ≡ true = ap (λ (k : ℕ). covers k (chunks_in (drop i s))) none ∙ good in
-      rw (g.covered, covered, g.losses, none) (ap Lost (omega arith))
+      rw (g.covered, covered, g.losses, none) (ap Some (omega arith))
 
 -- A part behind a part, and a part of one chunk.
 pub taken_none : (s : List ℕ) (i left : ℕ) → i ≤ length s → Taken s i left 0 0 0

@@ -1,5 +1,5 @@
 -- What the private functions of counting give: chunks from byte i on, with so many packets left.
-use Rattle.std.specs.Prelude.{ℕ, ◌+◌, ◌-◌, ◌*◌, ◌/◌, ◌%◌, ◌^◌, ◌<◌, ◌≤◌, min, ◌≡◌, true, false, List, length, take, drop}
+use Rattle.std.specs.Prelude.{ℕ, ◌+◌, ◌-◌, ◌*◌, ◌/◌, ◌%◌, ◌^◌, ◌<◌, ◌≤◌, min, ◌≡◌, true, false, List, Option, Some, None, length, take, drop}
 use Rattle.std.specs.Int.Count.{ones}
 use Rattle.wire.specs.BigEndian.{be16}
 use Rattle.trace.specs.Sum.{sum}
@@ -14,20 +14,28 @@ pub record Taken (s : List ℕ) (i left bytes packets lost : ℕ) : Type 0 where
   pub covered : covers left (chunks_in (drop i s)) ≡ covers (left - packets) (chunks_in (drop (i + bytes) s))
   pub losses : lost_in (trace_in left (chunks_in (drop i s))) ≡ lost + lost_in (trace_in (left - packets) (chunks_in (drop (i + bytes) s)))
 
--- the next part: where it has no bytes, the chunks cover too little or one of them stands where it may not
-pub record Step (s : List ℕ) (i left since : ℕ) (p : Part) : Type 0 where
-  pub none : p.bytes ≡ 0 → covers left (chunks_in (drop i s)) ≡ false
-  pub some : 0 < p.bytes → Taken s i left p.bytes p.packets p.lost
-  pub row : 0 < p.bytes → p.since ≤ since + p.bytes
+-- a part of that size, and how many bytes of vectors stand in a row then
+pub record Next (s : List ℕ) (i left since : ℕ) (p : Part) : Type 0 where
+  pub some : 0 < p.bytes
+  pub taken : Taken s i left p.bytes p.packets p.lost
+  pub row : p.since ≤ since + p.bytes
+
+-- the next part: where there is none, the chunks cover too little or one of them stands where it may not
+abbrev pub Step : List ℕ → ℕ → ℕ → ℕ → Option Part → Type 0
+Step s i left since None = covers left (chunks_in (drop i s)) ≡ false
+Step s i left since (Some p) = Next s i left since p
 
 -- a part of one chunk
-pub record One (c left since : ℕ) (p : Part) : Type 0 where
-  pub none : p.bytes ≡ 0 → stands_at c left ≡ false
-  pub stands : 0 < p.bytes → stands_at c left ≡ true
-  pub two : 0 < p.bytes → p.bytes ≡ 2
-  pub packets : 0 < p.bytes → p.packets ≡ min (length (packets_of c)) left
-  pub lost : 0 < p.bytes → (p.lost ≡ lost_in (take p.packets (packets_of c))) × (p.lost ≤ p.packets)
+pub record Single (c left since : ℕ) (p : Part) : Type 0 where
+  pub stands : stands_at c left ≡ true
+  pub two : p.bytes ≡ 2
+  pub packets : p.packets ≡ min (length (packets_of c)) left
+  pub lost : (p.lost ≡ lost_in (take p.packets (packets_of c))) × (p.lost ≤ p.packets)
   pub row : p.since ≤ since
+
+abbrev pub One : ℕ → ℕ → ℕ → Option Part → Type 0
+One c left since None = stands_at c left ≡ false
+One c left since (Some p) = Single c left since p
 
 -- four chunks side by side, each of 16 bits
 unfoldable pub four_at : List ℕ → ℕ → ℕ

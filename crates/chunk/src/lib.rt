@@ -31,15 +31,8 @@ const MOST_FOURS: usize = 64;
 
 pub const VECTOR_BITS: usize = 15;
 
-// What counting comes to: so many are lost, or the chunks do not cover the packets.
-#[derive(Clone, Copy)]
-pub enum Counted {
-    Lost(usize),
-    Uncovered,
-}
-
 // The next chunks: how many bytes they take, how many of the packets left they report on, how many of these are lost, and how
-// many bytes of vectors stand in a row then. No bytes where the chunk there is null, or none is left.
+// many bytes of vectors stand in a row then.
 #[derive(Clone, Copy)]
 struct Part {
     bytes: usize,
@@ -48,44 +41,36 @@ struct Part {
     since: usize,
 }
 
-const NO_PART: Part = Part {
-    bytes: 0,
-    packets: 0,
-    lost: 0,
-    since: 0,
-};
-
 // How many of so many packets are lost, as the chunks describe them.
-pub fn count(chunks: &[u8], packets: usize) -> Counted
+pub fn count(chunks: &[u8], packets: usize) -> Option<usize>
     ensures { result ≡ count_of packets (chunks_in chunks.now) }
 {
     let mut left = packets;
     let mut lost = 0;
     let mut i = 0;
     let mut since = 0;
+    // How far a part reaches is known once it is read, so there is no range to go over.
     while 0 < left {
-        let part = next_part(chunks, i, left, since);
-        if part.bytes == 0 {
-            return Counted::Uncovered;
-        }
+        let part = next_part(chunks, i, left, since)?;
         lost += part.lost;
         left -= part.packets;
         since = part.since;
         i += part.bytes;
     }
     if !all_null(chunks, i) {
-        return Counted::Uncovered;
+        return None;
     }
-    Counted::Lost(lost)
+    Some(lost)
 }
 
-// The chunk at i, or, where vectors have stood in a row, as many more as have been, all at once.
-fn next_part(chunks: &[u8], i: usize, left: usize, since: usize) -> Part
+// The chunk at i, or, where vectors have stood in a row, as many more as have been, all at once. None where the chunk there is
+// null, or none is left.
+fn next_part(chunks: &[u8], i: usize, left: usize, since: usize) -> Option<Part>
     requires { (0 < left) × (i ≤ length chunks.now) × (since ≤ i) }
     ensures { Step chunks.now i left since result }
 {
     if chunks.len() - i < 2 {
-        return NO_PART;
+        return None;
     }
     let chunk = pair_at(chunks, i);
     if chunk < VECTOR {
@@ -94,10 +79,10 @@ fn next_part(chunks: &[u8], i: usize, left: usize, since: usize) -> Part
     if since < ENOUGH {
         return one_part(chunk, left, since + 2);
     }
-    let fours = nearer(
-        nearer(since / 8, MOST_FOURS),
-        nearer(left / 60, (chunks.len() - i) / 8),
-    );
+    let fours = (since / 8)
+        .min(MOST_FOURS)
+        .min(left / 60)
+        .min((chunks.len() - i) / 8);
     let swept = sweep(chunks, i, fours);
     if fours == 0 {
         return one_part(chunk, left, 2);
@@ -105,30 +90,30 @@ fn next_part(chunks: &[u8], i: usize, left: usize, since: usize) -> Part
     if swept.all & TYPES != TYPES {
         return one_part(chunk, left, 2);
     }
-    Part {
+    Some(Part {
         bytes: 8 * fours,
         packets: 60 * fours,
         lost: 64 * fours - swept.ones,
         since: since + 8 * fours,
-    }
+    })
 }
 
-// One chunk, with so many packets left.
-fn one_part(chunk: u16, left: usize, since: usize) -> Part
+// One chunk, with so many packets left. None where it is null.
+fn one_part(chunk: u16, left: usize, since: usize) -> Option<Part>
     requires { 0 < left }
     ensures { One chunk left since result }
 {
     let whole = span(chunk);
     if chunk == 0 {
-        return NO_PART;
+        return None;
     }
-    let packets = nearer(whole, left);
-    Part {
+    let packets = whole.min(left);
+    Some(Part {
         bytes: 2,
         packets,
         lost: lost_among(chunk, packets),
         since,
-    }
+    })
 }
 
 // Chunks by fours: the bits that all have, and the ones of all together. Nothing leaves this loop early, so that it is
@@ -145,12 +130,10 @@ fn sweep(chunks: &[u8], i: usize, fours: usize) -> Swept
 {
     let mut all = 18_446_744_073_709_551_615;
     let mut ones = 0;
-    let mut k = 0;
-    while k < fours {
+    for k in 0..fours {
         let four = four_at(chunks, i + 8 * k);
         all = all & four;
         ones += u64::count_ones(four) as usize;
-        k += 1;
     }
     Swept { all, ones }
 }
@@ -160,28 +143,35 @@ fn four_at(s: &[u8], i: usize) -> u64
     requires { i + 8 ≤ length s.now }
     ensures { (result ≡ four_at s.now i) × Halves s.now i }
 {
-    let high = pair_at(s, i) as u64 * 65_536 + pair_at(s, i + 2) as u64;
-    let low = pair_at(s, i + 4) as u64 * 65_536 + pair_at(s, i + 6) as u64;
-    high * 4_294_967_296 + low
+    u64::from_be_bytes([
+        s[i],
+        s[i + 1],
+        s[i + 2],
+        s[i + 3],
+        s[i + 4],
+        s[i + 5],
+        s[i + 6],
+        s[i + 7],
+    ])
 }
 
+// The chunk at i.
+#[tactic(auto, unfolding(wire::specs::BigEndian::be16))]
 fn pair_at(s: &[u8], i: usize) -> u16
     requires { i + 2 ≤ length s.now }
     ensures { result ≡ be16 s.now i }
 {
-    s[i] as u16 * 256 + s[i + 1] as u16
+    u16::from_be_bytes([s[i], s[i + 1]])
 }
 
-// Whether all chunks from i on are null.
+// Whether all chunks from i on are null. Nothing leaves this loop early either.
 fn all_null(chunks: &[u8], i: usize) -> bool
     requires { i ≤ length chunks.now }
     ensures { result ≡ covers 0 (chunks_in (drop i chunks.now)) }
 {
     let mut null = true;
-    let mut j = i;
-    while 2 <= chunks.len() - j {
-        null = null & (pair_at(chunks, j) == 0);
-        j += 2;
+    for k in 0..(chunks.len() - i) / 2 {
+        null = null & (pair_at(chunks, i + 2 * k) == 0);
     }
     null
 }
@@ -208,14 +198,4 @@ fn lost_among(chunk: u16, n: usize) -> usize
         return 0;
     }
     n - u16::count_ones((chunk & 32_767) >> (VECTOR_BITS - n)) as usize
-}
-
-// The lesser of two numbers.
-pub fn nearer(a: usize, b: usize) -> usize
-    ensures { result ≡ min a b }
-{
-    if b < a {
-        return b;
-    }
-    a
 }

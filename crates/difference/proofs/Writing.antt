@@ -6,10 +6,13 @@ use mathlib.Core.Bool.{Bool, true, false, cond}
 use mathlib.Core.List.{List, [], ◌∷◌, ◌++◌, append-nil}
 use native.Mathlib.Omega.{arith}
 use borrow.Author.Tests.{le-leb, lt-leb}
+use borrow.Rule.Slice.PartMut.{put_mid}
 use lib.Dec.{leb}
 use lib.ListN.{length, drop, length-append, length-drop, length-set}
 use lib.Seq.{sets, sets-eq, take_at, drop-append-add, drop-drop, append_snoc}
+use Rattle.std.proofs.lemmas.Slice.{put_mid-paste}
 use Rattle.difference.specs.declared.Difference.{Difference}
+use Rattle.difference.specs.Differences.{kind_number}
 use Rattle.difference.specs.Numbers.{numbers_of, placed, written, Adds}
 
 placed_length : (n : ℕ) (d : Difference) (out : List ℕ) → length (placed n d out) ≡ length out
@@ -35,9 +38,23 @@ pub adds_counted : (d : Difference) (out : List ℕ) (n : ℕ) → length out < 
 unfolding written
 adds_counted d out n h = record { count = omega arith; list = rw (lt-leb (5 * n + 5) (length out) h) }
 
-pub adds_placed : (d : Difference) (out : List ℕ) (n : ℕ) → 5 * n + 5 ≤ length out → Adds (d ∷ []) out (placed n d out) n (n + 1)
+-- five numbers stored one after the other, or all at once
+placed_sets : (n : ℕ) (d : Difference) (out : List ℕ) → placed n d out ≡ sets out (5 * n) (kind_number d.kind ∷ d.block ∷ d.field ∷ d.first ∷ d.second ∷ [])
+placed_sets n d out =
+    let one : 5 * n + 1 ≡ suc (5 * n) = omega arith in
+    let two : 5 * n + 2 ≡ suc (suc (5 * n)) = omega arith in
+    let three : 5 * n + 3 ≡ suc (suc (suc (5 * n))) = omega arith in
+    let four : 5 * n + 4 ≡ suc (suc (suc (suc (5 * n)))) = omega arith in
+    rw (one, two, three, four)
+
+pub adds_placed : (d : Difference) (out stored : List ℕ) (n k : ℕ) → 5 * n + 5 ≤ length out → k ≡ 5 →
+    stored ≡ kind_number d.kind ∷ d.block ∷ d.field ∷ d.first ∷ d.second ∷ [] → Adds (d ∷ []) out (put_mid (5 * n) k out stored) n (n + 1)
 unfolding written
-adds_placed d out n h = record { count = omega arith; list = rw (le-leb (5 * n + 5) (length out) h) }
+adds_placed d out stored n k h five is =
+    let numbers : List ℕ = kind_number d.kind ∷ d.block ∷ d.field ∷ d.first ∷ d.second ∷ [] in
+    let stored_is = put_mid-paste (5 * n) k out stored numbers 5 is (sym five) refl in
+    let list = sym (placed_sets n d out ∙ sets-eq numbers out (5 * n) h) in
+    record { count = omega arith; list = rw (le-leb (5 * n + 5) (length out) h) (stored_is ∙ list) }
 
 written_both : (n : ℕ) (ds es : List Difference) (out : List ℕ) → written (n + length ds) es (written n ds out) ≡ written n (ds ++ es) out
 unfolding written
@@ -72,14 +89,6 @@ numbers_append [] es = refl
 numbers_append (d ∷ ds) es = rw (numbers_append ds es)
 
 -- one more in front of what was there
-placed_sets : (n : ℕ) (d : Difference) (out : List ℕ) → placed n d out ≡ sets out (5 * n) (d.kind ∷ d.block ∷ d.field ∷ d.first ∷ d.second ∷ [])
-placed_sets n d out =
-    let one : 5 * n + 1 ≡ suc (5 * n) = omega arith in
-    let two : 5 * n + 2 ≡ suc (suc (5 * n)) = omega arith in
-    let three : 5 * n + 3 ≡ suc (suc (suc (5 * n))) = omega arith in
-    let four : 5 * n + 4 ≡ suc (suc (suc (suc (5 * n)))) = omega arith in
-    rw (one, two, three, four)
-
 placed_behind : (done : List Difference) (n : ℕ) (d : Difference) (out : List ℕ) → length done ≡ n → 5 * n + 5 ≤ length out →
     placed n d (numbers_of done ++ drop (5 * n) out) ≡ numbers_of (done ++ (d ∷ [])) ++ drop (5 * (n + 1)) out
 unfolding numbers_of
@@ -87,7 +96,7 @@ placed_behind done n d out e h =
     let long : length (numbers_of done) ≡ 5 * n = numbers_length done ∙ ap (λ (k : ℕ). 5 * k) e in
     let rest = length-drop (5 * n) out in
     let all = length-append (numbers_of done) (drop (5 * n) out) in
-    let five = d.kind ∷ d.block ∷ d.field ∷ d.first ∷ d.second ∷ [] in
+    let five = kind_number d.kind ∷ d.block ∷ d.field ∷ d.first ∷ d.second ∷ [] in
     let next : 5 * n + 5 ≡ 5 * (n + 1) = omega arith in
     placed_sets n d (numbers_of done ++ drop (5 * n) out)
     ∙ sets-eq five (numbers_of done ++ drop (5 * n) out) (5 * n) (omega arith)

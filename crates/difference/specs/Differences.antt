@@ -2,21 +2,30 @@
 -- Kinds: 0 sender, 1 field, 2 whole block, 3 only in the first, 4 only in the second."
 use Rattle.std.specs.Prelude.{ℕ, suc, cond, List, [], ◌∷◌, ◌++◌, eqb}
 use Rattle.difference.specs.declared.Difference.{Difference}
+use Rattle.difference.specs.declared.Kind.{Kind}
+use Rattle.difference.specs.declared.Kind.TheVariants.{Sender, Field, Block, OnlyFirst, OnlySecond}
+
+abbrev pub kind_number : Kind → ℕ
+kind_number Sender = 0
+kind_number Field = 1
+kind_number Block = 2
+kind_number OnlyFirst = 3
+kind_number OnlySecond = 4
 
 abbrev pub senders : ℕ → ℕ → Difference
-senders a b = record { kind = 0; block = 0; field = 0; first = a; second = b }
+senders a b = record { kind = Sender; block = 0; field = 0; first = a; second = b }
 
 abbrev pub fields : ℕ → ℕ → ℕ → ℕ → Difference
-fields k f a b = record { kind = 1; block = k; field = f; first = a; second = b }
+fields k f a b = record { kind = Field; block = k; field = f; first = a; second = b }
 
 abbrev pub whole_block : ℕ → Difference
-whole_block k = record { kind = 2; block = k; field = 0; first = 0; second = 0 }
+whole_block k = record { kind = Block; block = k; field = 0; first = 0; second = 0 }
 
 abbrev pub only_first : ℕ → Difference
-only_first k = record { kind = 3; block = k; field = 0; first = 0; second = 0 }
+only_first k = record { kind = OnlyFirst; block = k; field = 0; first = 0; second = 0 }
 
 abbrev pub only_second : ℕ → Difference
-only_second k = record { kind = 4; block = k; field = 0; first = 0; second = 0 }
+only_second k = record { kind = OnlySecond; block = k; field = 0; first = 0; second = 0 }
 
 -- this entry, where the two numbers are not the same
 abbrev pub where_unequal : ℕ → ℕ → Difference → List Difference

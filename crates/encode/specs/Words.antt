@@ -1,13 +1,14 @@
 -- A typed block as its 32-bit words, the rows of the diagrams in crate block, and as bytes: document 01, "The
 -- packet", the table, and "Reserved bits are .. zero when written". A block's first word is its type,
 -- type-specific byte and "block length in 32-bit words less one".
-use Rattle.std.specs.Prelude.{ℕ, ◌+◌, ◌-◌, ◌*◌, ◌%◌, Bool, true, List, [], ◌∷◌, ◌++◌, length, replicate}
+use Rattle.std.specs.Prelude.{ℕ, ◌+◌, ◌*◌, ◌%◌, Bool, true, List, [], ◌∷◌, ◌++◌, length}
 use Rattle.wire.specs.BigEndian.{bytes32}
 use Rattle.block.specs.Types.{measurement_type, loss_type, discard_type, effective_type, streams_type}
 use Rattle.block.specs.Reading.{summary_good}
 use Rattle.block.specs.declared.Block.{Block}
 use Rattle.block.specs.declared.Block.TheVariants.{Measured, Loss, Discard, Effective, Streams}
 use Rattle.encode.specs.declared.BlockWords.{BlockWords}
+use Rattle.encode.specs.declared.BlockWords.TheVariants.{Three, Four, Eight, Twelve}
 
 -- two 16-bit numbers side by side
 abbrev pub halves : ℕ → ℕ → ℕ
@@ -60,9 +61,12 @@ in_bytes (w ∷ ws) = bytes32 w ++ in_bytes ws
 unfoldable pub bytes_of : Block → List ℕ
 bytes_of b = in_bytes (words_of b)
 
--- the words in an array of twelve, zeros behind them
-abbrev pub filled : List ℕ → BlockWords
-filled ws = record { count = length ws; words = ws ++ replicate (12 - length ws) 0 }
+-- the words that are held by their number
+abbrev pub held : BlockWords → List ℕ
+held (Three ws) = ws
+held (Four ws) = ws
+held (Eight ws) = ws
+held (Twelve ws) = ws
 
 -- what refusal 16 lets through: every block but a 17 or 18 that "has a flag other than 1, 2 or 3, or a rate that
 -- reading would drop"

@@ -2,30 +2,35 @@
 // in crate block, so a block is made as words and one loop stores them. Reserved bits are zero.
 #![tactic(auto)]
 
-ghost use Rattle.std.specs.Prelude.{◌≡◌};
+ghost use Rattle.std.specs.Prelude.{◌≡◌, ◌≤◌, length};
 ghost use Rattle.wire.specs.BigEndian.{placed};
 ghost use Rattle.block.specs.declared.Block.TheVariants.{Measured, Loss, Discard, Effective, Streams};
-ghost use Rattle.encode.specs.Words.{halves, first_word, words_of, filled, bytes_of, writable};
+ghost use Rattle.encode.specs.Words.{halves, first_word, words_of, held, in_bytes, bytes_of, writable};
 
 use block::{Block, DiscardSummary, EffectiveSummary, LossSummary, Measurement, StreamCounts};
 
-// The words of a block: the first `count` of twelve, the most that a listed type has.
+// The words of a block, its first word among them: as many as its kind has.
 #[derive(Clone, Copy)]
-pub struct BlockWords {
-    pub count: usize,
-    pub words: [u32; 12],
+pub enum BlockWords {
+    Three([u32; 3]),
+    Four([u32; 4]),
+    Eight([u32; 8]),
+    Twelve([u32; 12]),
 }
 
-// How many words a block has, its first among them.
-const MEASUREMENT_COUNT: usize = 1 + block::MEASUREMENT_WORDS as usize;
-
-const LOSS_COUNT: usize = 1 + block::LOSS_WORDS as usize;
-
-const DISCARD_COUNT: usize = 1 + block::DISCARD_WORDS as usize;
-
-const EFFECTIVE_COUNT: usize = 1 + block::EFFECTIVE_WORDS as usize;
-
-const STREAMS_COUNT: usize = 1 + block::STREAMS_WORDS as usize;
+impl BlockWords {
+    // The words themselves.
+    pub fn as_slice(&self) -> &[u32]
+        ensures { result.now ≡ held self.now }
+    {
+        match self {
+            BlockWords::Three(words) => words,
+            BlockWords::Four(words) => words,
+            BlockWords::Eight(words) => words,
+            BlockWords::Twelve(words) => words,
+        }
+    }
+}
 
 // Whether a block may be written: a 17 or 18 that reading would drop may not.
 pub fn writable(b: Block) -> bool
@@ -41,146 +46,104 @@ pub fn writable(b: Block) -> bool
 }
 
 // Writes a block whose first byte then stands at offset at. Nothing is written where it does not fit.
+#[tactic(auto, unfolding(crate::specs::Words::bytes_of))]
 pub fn write(out: &mut [u8], at: usize, b: Block)
     ensures { out.new ≡ placed out.old at (bytes_of b) }
 {
     let made = words(b);
-    let count = made.count;
-    let all = made.words;
-    if out.len() < 4 * count {
+    write_words(out, at, made.as_slice());
+}
+
+// Writes words one behind the other, where all of them fit.
+fn write_words(out: &mut [u8], at: usize, words: &[u32])
+    requires { length words.now ≤ 12 }
+    ensures { out.new ≡ placed out.old at (in_bytes words.now) }
+{
+    let size = 4 * words.len();
+    if out.len() < size || out.len() - size < at {
         return;
     }
-    if out.len() - 4 * count < at {
-        return;
-    }
-    let mut i = 0;
-    while i < count {
-        wire::put_u32(out, at + 4 * i, all[i]);
-        i += 1;
+    for (i, word) in words.iter().enumerate() {
+        wire::put_u32(out, at + 4 * i, *word);
     }
 }
 
-// The words of a block, its first word among them.
+// The words of a block.
 pub fn words(b: Block) -> BlockWords
-    ensures { result ≡ filled (words_of b) }
+    ensures { held result ≡ words_of b }
 {
     match b {
-        Block::Measured(m) => measurement_words(m),
-        Block::Loss(l) => loss_words(l),
-        Block::Discard(d) => discard_words(d),
-        Block::Effective(e) => effective_words(e),
-        Block::Streams(t) => stream_words(t),
+        Block::Measured(m) => BlockWords::Eight(measurement_words(m)),
+        Block::Loss(l) => BlockWords::Four(loss_words(l)),
+        Block::Discard(d) => BlockWords::Three(discard_words(d)),
+        Block::Effective(e) => BlockWords::Three(effective_words(e)),
+        Block::Streams(t) => BlockWords::Twelve(stream_words(t)),
     }
 }
 
-fn measurement_words(m: Measurement) -> BlockWords
-    ensures { result ≡ filled (words_of (Measured m)) }
+fn measurement_words(m: Measurement) -> [u32; 8]
+    ensures { result ≡ words_of (Measured m) }
 {
-    BlockWords {
-        count: MEASUREMENT_COUNT,
-        words: [
-            first_word(block::MEASUREMENT, 0, block::MEASUREMENT_WORDS),
-            m.source,
-            halves(0, m.first),
-            m.extended_first,
-            m.extended_last,
-            m.interval,
-            m.seconds,
-            m.fraction,
-            0,
-            0,
-            0,
-            0,
-        ],
-    }
+    [
+        first_word(block::MEASUREMENT, 0, block::MEASUREMENT_WORDS),
+        m.source,
+        halves(0, m.first),
+        m.extended_first,
+        m.extended_last,
+        m.interval,
+        m.seconds,
+        m.fraction,
+    ]
 }
 
-fn loss_words(l: LossSummary) -> BlockWords
-    ensures { result ≡ filled (words_of (Loss l)) }
+fn loss_words(l: LossSummary) -> [u32; 4]
+    ensures { result ≡ words_of (Loss l) }
 {
-    BlockWords {
-        count: LOSS_COUNT,
-        words: [
-            first_word(block::LOSS, l.flag % 4 * 64, block::LOSS_WORDS),
-            l.source,
-            halves(l.burst_rate, l.gap_rate),
-            halves(l.burst_mean, l.burst_variance),
-            0,
-            0,
-            0,
-            0,
-            0,
-            0,
-            0,
-            0,
-        ],
-    }
+    [
+        first_word(block::LOSS, l.flag % 4 * 64, block::LOSS_WORDS),
+        l.source,
+        halves(l.burst_rate, l.gap_rate),
+        halves(l.burst_mean, l.burst_variance),
+    ]
 }
 
-fn discard_words(d: DiscardSummary) -> BlockWords
-    ensures { result ≡ filled (words_of (Discard d)) }
+fn discard_words(d: DiscardSummary) -> [u32; 3]
+    ensures { result ≡ words_of (Discard d) }
 {
-    BlockWords {
-        count: DISCARD_COUNT,
-        words: [
-            first_word(block::DISCARD, d.flag % 4 * 64, block::DISCARD_WORDS),
-            d.source,
-            halves(d.burst_rate, d.gap_rate),
-            0,
-            0,
-            0,
-            0,
-            0,
-            0,
-            0,
-            0,
-            0,
-        ],
-    }
+    [
+        first_word(block::DISCARD, d.flag % 4 * 64, block::DISCARD_WORDS),
+        d.source,
+        halves(d.burst_rate, d.gap_rate),
+    ]
 }
 
-fn effective_words(e: EffectiveSummary) -> BlockWords
-    ensures { result ≡ filled (words_of (Effective e)) }
+fn effective_words(e: EffectiveSummary) -> [u32; 3]
+    ensures { result ≡ words_of (Effective e) }
 {
-    BlockWords {
-        count: EFFECTIVE_COUNT,
-        words: [
-            first_word(block::EFFECTIVE, 0, block::EFFECTIVE_WORDS),
-            e.source,
-            halves(e.index, 0),
-            0,
-            0,
-            0,
-            0,
-            0,
-            0,
-            0,
-            0,
-            0,
-        ],
-    }
+    [
+        first_word(block::EFFECTIVE, 0, block::EFFECTIVE_WORDS),
+        e.source,
+        halves(e.index, 0),
+    ]
 }
 
-fn stream_words(t: StreamCounts) -> BlockWords
-    ensures { result ≡ filled (words_of (Streams t)) }
+fn stream_words(t: StreamCounts) -> [u32; 12]
+    ensures { result ≡ words_of (Streams t) }
 {
-    BlockWords {
-        count: STREAMS_COUNT,
-        words: [
-            first_word(block::STREAMS, 0, block::STREAMS_WORDS),
-            t.source,
-            halves(t.begin, t.end),
-            t.streams,
-            t.sync_losses,
-            t.sync_byte_errors,
-            t.continuity_errors,
-            t.transport_errors,
-            t.pcr_errors,
-            t.pcr_repetition_errors,
-            t.pcr_discontinuity_errors,
-            t.pts_errors,
-        ],
-    }
+    [
+        first_word(block::STREAMS, 0, block::STREAMS_WORDS),
+        t.source,
+        halves(t.begin, t.end),
+        t.streams,
+        t.sync_losses,
+        t.sync_byte_errors,
+        t.continuity_errors,
+        t.transport_errors,
+        t.pcr_errors,
+        t.pcr_repetition_errors,
+        t.pcr_discontinuity_errors,
+        t.pts_errors,
+    ]
 }
 
 // A block's first word: its type, type-specific byte and block length.

@@ -1,45 +1,38 @@
--- Packets stored one after the other: `Filling`, the loop of a run and of a vector alike. Assumes nothing.
+-- Packets stored one after the other: `Filling`, the loop of a vector bit by bit. Assumes nothing.
 use Prim.Native.Nat.{ℕ, ◌+◌, ◌<◌, ◌≤◌}
 use mathlib.Core.Path.{◌≡◌, sym, ap, ◌∙◌}
-use mathlib.Core.List.{List, ◌++◌}
+use mathlib.Core.List.{List, ◌++◌, append-nil}
 use native.Mathlib.Omega.{arith}
+use native.Mathlib.Nat.{zero-add}
 use native.Mathlib.Numerals.{add-one}
-use lib.ListN.{length, get_or, take, drop, set}
-use lib.Seq.{length-take-le, paste, paste-zero, paste-suc, length-paste}
-use Rattle.wire.specs.BigEndian.{placed}
-use Rattle.wire.proofs.Placed.{placed_in}
+use lib.ListN.{length, get_or, take, set, drop_of_length-le}
+use lib.Seq.{paste, paste-zero, paste-suc}
 
--- the first j of n packets stand in `out` from `at` on, the rest of it is as it was
-pub record Filling (old : List ℕ) (at n : ℕ) (packets out : List ℕ) (j : ℕ) : Type 0 where
-  pub room : at + n ≤ length old
-  pub some : n ≤ length packets
-  pub within : j ≤ n
-  pub is : out ≡ paste old at packets j
+-- the first j packets stand at the front of `out`, the rest of it is as it was
+pub record Filling (old packets out : List ℕ) (j : ℕ) : Type 0 where
+  pub some : length old ≤ length packets
+  pub within : j ≤ length old
+  pub is : out ≡ paste old 0 packets j
 
-pub filling_none : (old : List ℕ) (at n : ℕ) (packets : List ℕ) → at + n ≤ length old → n ≤ length packets → Filling old at n packets old 0
-filling_none old at n packets room some = record { room = room; some = some; within = omega arith; is = paste-zero old at packets }
+pub filling_none : (old packets : List ℕ) → length old ≤ length packets → Filling old packets old 0
+filling_none old packets some = record { some = some; within = omega arith; is = paste-zero old 0 packets }
 
-module _ (old : List ℕ) (at n : ℕ) (packets out : List ℕ) (j : ℕ) (g : Filling old at n packets out j) where
-  pub filling_long : length out ≡ length old
-  filling_long = let room = g.room in let some = g.some in let within = g.within in ap length g.is ∙ length-paste old at packets j (omega arith) (omega arith)
-
-  pub filling_more : (packet : ℕ) → packet ≡ get_or packets j 0 → j < n → Filling old at n packets (set out (at + j) packet) (j + 1)
+module _ (old packets out : List ℕ) (j : ℕ) (g : Filling old packets out j) where
+  pub filling_more : (packet : ℕ) → packet ≡ get_or packets j 0 → j < length old → Filling old packets (set out j packet) (j + 1)
   filling_more packet is h =
-      let room = g.room in
       let some = g.some in
       record {
-        room = room;
         some = some;
         within = omega arith;
-        is = rw (is, g.is, add-one) (paste-suc old at packets j 0 (omega arith) (omega arith));
+        is =
+            rw (is, g.is, add-one) (
+            ap (λ (k : ℕ). set (paste old 0 packets j) k (get_or packets j 0)) (sym (zero-add j)) ∙ paste-suc old 0 packets j 0 (omega arith) (omega arith)
+            );
       }
 
-  pub filling_all : n ≤ j → out ≡ placed old at (take n packets)
+  pub filling_all : length old ≤ j → out ≡ take (length old) packets
   filling_all h =
-      let room = g.room in
       let within = g.within in
-      let end : j ≡ n = omega arith in
-      let long = length-take-le n packets g.some in
-      g.is ∙ ap (paste old at packets) end
-      ∙ ap (λ (k : ℕ). take at old ++ take n packets ++ drop (at + k) old) (sym long)
-      ∙ sym (placed_in old at (take n packets) (rw long room))
+      let end : j ≡ length old = omega arith in
+      g.is ∙ ap (λ (rest : List ℕ). take j packets ++ rest) (drop_of_length-le old (omega arith)) ∙ append-nil (take j packets)
+      ∙ ap (λ (n : ℕ). take n packets) end

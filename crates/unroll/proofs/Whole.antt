@@ -1,18 +1,19 @@
 -- A whole vector put in two: its packets by parts of its bits, and eight packets as the bytes of one number. Assumes nothing.
 use Prim.Native.Nat.{ℕ, zero, suc, ◌+◌, ◌-◌, ◌*◌, ◌/◌, ◌%◌, ◌^◌, ◌<◌, ◌≤◌}
 use mathlib.Core.Path.{◌≡◌, refl, sym, ap, ap₂, ◌∙◌}
-use mathlib.Core.List.{List, ◌∷◌, ◌++◌}
+use mathlib.Core.List.{List, [], ◌∷◌, ◌++◌, append_assoc, append-nil}
 use native.Mathlib.Omega.{arith}
 use native.Mathlib.Nat.{zero-add, suc-add, add_comm}
 use borrow.Author.Tests.{eqb-true}
 use lib.Bits.{bit_and, and_le_r}
 use lib.Dec.{eqb}
-use lib.ListN.{length, take, set}
-use lib.Seq.{length-take-le, take_all}
+use borrow.Rule.Slice.PartMut.{put_mid}
+use lib.ListN.{length, take, drop, length-append, length-drop, drop_of_length-le}
+use lib.Seq.{take_all, take_at}
 use lib.Pow.{shr-shr, field, mod-mod-pow}
+use Rattle.std.proofs.Common.{w64}
+use Rattle.std.specs.Int.{to_le_bytes}
 use Rattle.refusal.proofs.Tests.{below, below_at}
-use Rattle.wire.specs.BigEndian.{placed}
-use Rattle.wire.proofs.Placed.{placed_more, placed_over, length_placed, stored_8}
 use Rattle.chunk.specs.Chunks.{vector_bits, vector_of}
 use Rattle.chunk.proofs.Vectors.{length_vector}
 use Rattle.unroll.specs.Packed.{packed}
@@ -56,51 +57,65 @@ vector_low d (suc b) c =
     in
     ap₂ (λ (n : ℕ) (l : List ℕ). (1 - n) ∷ l) top (ap (λ (n : ℕ). vector_of b (c % 2 ^ n)) again ∙ vector_low (suc d) b c)
 
-module _ (s : List ℕ) (i c n : ℕ) (room : i + n ≤ length s) where
-  -- n packets put over the first eight
-  pub over_eight : (v : ℕ) → 8 ≤ n → n ≤ vector_bits → placed (placed s i (vector_of 8 v)) i (take n (vector_of vector_bits c)) ≡ placed s i (take n (vector_of vector_bits c))
-  over_eight v some most =
-      let long : length (take n (vector_of vector_bits c)) ≡ n = length-take-le n (vector_of vector_bits c) (rw (length_vector vector_bits c) most) in
-      placed_over s i (vector_of 8 v) (take n (vector_of vector_bits c)) (omega (arith, length_vector 8 v)) (omega arith)
-
-  -- fifteen packets put as the first eight and the last eight
-  pub whole : n ≡ vector_bits → placed (placed s i (vector_of 8 (c / 128 % 256))) (i + 7) (vector_of 8 (c % 256)) ≡ placed s i (take n (vector_of vector_bits c))
-  whole is =
+-- fifteen packets put as the first eight and the last eight
+module _ (out : List ℕ) (c : ℕ) (most : length out ≤ vector_bits) where
+  pub whole : (first last : List ℕ) → first ≡ vector_of 8 (c / 128 % 256) → last ≡ vector_of 8 (c % 256) → vector_bits ≤ length (first ++ drop 8 out) →
+      put_mid 7 (length (first ++ drop 8 out) - 7) (first ++ drop 8 out) last ≡ take (length out) (vector_of vector_bits c)
+  whole first last is to some =
+      let all : List ℕ = first ++ drop 8 out in
       let front : List ℕ = vector_of 7 (c / 256) in
       let middle : List ℕ = vector_of 1 (c / 128) in
-      let last : List ℕ = vector_of 8 c in
-      let long : length front ≡ 7 = length_vector 7 (c / 256) in
-      let one : length middle ≡ 1 = length_vector 1 (c / 128) in
-      let eight : length last ≡ 8 = length_vector 8 c in
       let halved : c / 128 / 2 ≡ c / 256 = omega arith in
-      let high : vector_of 8 (c / 128 % 256) ≡ front ++ middle =
-      vector_low 0 8 (c / 128) ∙ vector_parts 7 1 (c / 128) ∙ ap (λ (n : ℕ). vector_of 7 n ++ middle) halved
+      let high : first ≡ front ++ middle =
+      is ∙ vector_low 0 8 (c / 128) ∙ vector_parts 7 1 (c / 128) ∙ ap (λ (n : ℕ). vector_of 7 n ++ middle) halved
       in
-      let all = take_all n (vector_of vector_bits c) (omega (arith, length_vector vector_bits c)) in
-      ap₂ (λ (a b : List ℕ). placed (placed s i a) (i + 7) b) high (vector_low 0 8 c)
-      ∙ ap₂ (λ (l : List ℕ) (n : ℕ). placed l (i + n) last) (sym (placed_more s i front middle (omega arith))) (sym long)
-      ∙ placed_over (placed s i front) (i + length front) middle last (omega arith) (rw (length_placed s i front (omega arith)) (omega arith))
-      ∙ placed_more s i front last (omega arith)
-      ∙ ap (placed s i) (sym (all ∙ vector_parts 7 8 c))
+      let eight : length first ≡ 8 = ap length is ∙ length_vector 8 (c / 128 % 256) in
+      let long : vector_bits ≤ length out = omega (arith, length-append first (drop 8 out), length-drop 8 out) in
+      let cut : take 7 all ≡ front =
+      ap (λ (l : List ℕ). take 7 (l ++ drop 8 out)) high ∙ ap (take 7) (append_assoc front middle (drop 8 out))
+      ∙ take_at front (middle ++ drop 8 out) 7 (length_vector 7 (c / 256))
+      in
+      let none : drop (length all - 7) (drop 7 all) ≡ [] = drop_of_length-le (drop 7 all) (omega (arith, length-drop 7 all)) in
+      let kept = take_all (length out) (vector_of vector_bits c) (omega (arith, length_vector vector_bits c)) in
+      ap₂ (λ (a b : List ℕ). a ++ (b ++ drop (length all - 7) (drop 7 all))) cut (to ∙ vector_low 0 8 c)
+      ∙ ap (λ (l : List ℕ). front ++ l) (ap (λ (l : List ℕ). vector_of 8 c ++ l) none ∙ append-nil (vector_of 8 c))
+      ∙ sym (kept ∙ vector_parts 7 8 c)
 
 -- the bytes of eight packets' number
 digits : (n a b c d e f g h : ℕ) → a < 2 → b < 2 → c < 2 → d < 2 → e < 2 → f < 2 → g < 2 → h < 2 →
     n ≡ a + 256 * (b + 256 * (c + 256 * (d + 256 * (e + 256 * (f + 256 * (g + 256 * (h + 256 * 0))))))) →
-    (n % 256 ≡ a) × (n / 256 % 256 ≡ b) × (n / 65536 % 256 ≡ c) × (n / 16777216 % 256 ≡ d) × (n / 4294967296 % 256 ≡ e)
-    × (n / 1099511627776 % 256 ≡ f) × (n / 281474976710656 % 256 ≡ g) × (n / 72057594037927936 ≡ h)
-digits n a b c d e f g h la lb lc ld le lf lg lh is = (omega arith, omega arith, omega arith, omega arith, omega arith, omega arith, omega arith, omega arith)
+    to_le_bytes w64 n ≡ a ∷ b ∷ c ∷ d ∷ e ∷ f ∷ g ∷ h ∷ []
+digits n a b c d e f g h la lb lc ld le lf lg lh is = λ j. e0 j ∷ e1 j ∷ e2 j ∷ e3 j ∷ e4 j ∷ e5 j ∷ e6 j ∷ e7 j ∷ []
+  where
+    e0 : n % 256 ≡ a
+    e0 = omega arith
+
+    e1 : n / 256 % 256 ≡ b
+    e1 = omega arith
+
+    e2 : n / 65536 % 256 ≡ c
+    e2 = omega arith
+
+    e3 : n / 16777216 % 256 ≡ d
+    e3 = omega arith
+
+    e4 : n / 4294967296 % 256 ≡ e
+    e4 = omega arith
+
+    e5 : n / 1099511627776 % 256 ≡ f
+    e5 = omega arith
+
+    e6 : n / 281474976710656 % 256 ≡ g
+    e6 = omega arith
+
+    e7 : n / 72057594037927936 % 256 ≡ h
+    e7 = omega arith
 
 packet_small : (n : ℕ) → 1 - n < 2
 packet_small n = omega arith
 
-pub eight_stored : (s : List ℕ) (i n v : ℕ) → i + 8 ≤ length s → n ≡ packed (vector_of 8 v) →
-    set (set (set (set (set (set (set (set s i (n % 256)) (i + 1) (n / 256 % 256)) (i + 2) (n / 65536 % 256)) (i + 3) (n / 16777216 % 256))
-    (i + 4) (n / 4294967296 % 256)) (i + 5) (n / 1099511627776 % 256)) (i + 6) (n / 281474976710656 % 256)) (i + 7) (n / 72057594037927936)
-    ≡ placed s i (vector_of 8 v)
+pub eight_bytes : (n v : ℕ) → n ≡ packed (vector_of 8 v) → to_le_bytes w64 n ≡ vector_of 8 v
 unfolding vector_of packed
-eight_stored s i n v h is =
-    let byte =
+eight_bytes n v is =
     digits n (1 - v / 128 % 2) (1 - v / 64 % 2) (1 - v / 32 % 2) (1 - v / 16 % 2) (1 - v / 8 % 2) (1 - v / 4 % 2) (1 - v / 2 % 2) (1 - v / 1 % 2)
     (packet_small _) (packet_small _) (packet_small _) (packet_small _) (packet_small _) (packet_small _) (packet_small _) (packet_small _) is
-    in
-    stored_8 s i _ _ _ _ _ _ _ _ h ∙ rw (byte.0, byte.1, byte.2, byte.3, byte.4, byte.5, byte.6, byte.7)

@@ -20,17 +20,17 @@ returns-then-interval-gt-INTERVAL_MAX c =
 
 pub overflow_cast-result : goal.overflow_cast-result
 overflow_cast-result c =
-    let few = fits_half _ _ _ (omega arith) (sym c.count.ensures ∙ c.in-Lost.is) in
+    let few = fits_half _ _ _ (omega arith) (sym c.count.ensures ∙ c.in-Some.is) in
     omega arith
 
-pub returns-in-Lost : goal.returns-in-Lost
-returns-in-Lost c =
+pub returns : goal.returns
+returns c =
     let n = interval _ (omega arith) _ _ _ c.u16_at-begin.ensures c.u16_at-end.ensures c.packets_covered-interval.ensures in
     counted _ _ (omega arith) (omega arith) (omega arith) (omega arith) _ _ _ _ c.u32_at.ensures c.u16_at-begin.ensures c.u16_at-end.ensures
-    (sym (counted_behind _ _ _ n c.count.ensures) ∙ c.in-Lost.is)
+    (sym (counted_behind _ _ _ n c.count.ensures) ∙ c.in-Some.is)
 
-pub returns-in-Uncovered : goal.returns-in-Uncovered
-returns-in-Uncovered c =
+pub returns-in_default : goal.returns-in_default
+returns-in_default c =
     let n = interval _ (omega arith) _ _ _ c.u16_at-begin.ensures c.u16_at-end.ensures c.packets_covered-interval.ensures in
     uncovered _ _ (omega arith) (omega arith) (omega arith) (omega arith)
-    (sym (counted_behind _ _ _ n c.count.ensures) ∙ c.in-Uncovered.is)
+    (sym (counted_behind _ _ _ n c.count.ensures) ∙ c.in_default.is)

@@ -11,26 +11,23 @@ use Rattle.chunk.proofs.count.Goals as goal
 pub loop-left-init : goal.loop-left-init
 loop-left-init c = counting_none _ _
 
-pub next_part-part-requires : goal.next_part-part-requires
-next_part-part-requires c = (omega arith, omega arith, omega arith)
-
-pub returns-then-part-eq0 : goal.returns-then-part-eq0
-returns-then-part-eq0 c = counting_bad _ _ _ _ _ _ c.loop-left.invariant (c.next_part-part.ensures.none c.if-part-eq0.true)
+pub returns-in_err-part : goal.returns-in_err-part
+returns-in_err-part c = c.from_residual.ensures ∙ counting_bad _ _ _ _ _ _ c.loop-left.invariant c.in_err-part.ensures
 
 pub overflow_add-lost : goal.overflow_add-lost
-overflow_add-lost c = let t = c.next_part-part.ensures.some (omega arith) in let few = t.few in let inside = t.inside in let sum = c.loop-left.invariant.few in omega arith
+overflow_add-lost c = let few = c.in_ok-part.ensures.taken.few in let inside = c.in_ok-part.ensures.taken.inside in let sum = c.loop-left.invariant.few in omega arith
 
 pub overflow_sub-left : goal.overflow_sub-left
-overflow_sub-left c = (c.next_part-part.ensures.some (omega arith)).inside
+overflow_sub-left c = c.in_ok-part.ensures.taken.inside
 
 pub overflow_add-i : goal.overflow_add-i
-overflow_add-i c = let within = (c.next_part-part.ensures.some (omega arith)).within in omega arith
+overflow_add-i c = let within = c.in_ok-part.ensures.taken.within in omega arith
 
 pub loop-left-smaller : goal.loop-left-smaller
-loop-left-smaller c = let within = (c.next_part-part.ensures.some (omega arith)).within in omega arith
+loop-left-smaller c = let within = c.in_ok-part.ensures.taken.within in let some = c.in_ok-part.ensures.some in omega arith
 
 pub loop-left-preserved : goal.loop-left-preserved
-loop-left-preserved c = let told = c.next_part-part.ensures in counting_more _ _ _ _ _ _ c.loop-left.invariant _ _ _ _ (told.some (omega arith)) (told.row (omega arith))
+loop-left-preserved c = let told = c.in_ok-part.ensures in counting_more _ _ _ _ _ _ c.loop-left.invariant _ _ _ _ told.taken told.row
 
 pub returns-then-not-all_null : goal.returns-then-not-all_null
 returns-then-not-all_null c =

@@ -5,7 +5,7 @@ use Rattle.chunk.proofs.Sweeping.{types_tested, sweeping_few}
 use Rattle.chunk.proofs.next_part.Goals as goal
 
 pub returns-then-chunks-i-lt2 : goal.returns-then-chunks-i-lt2
-returns-then-chunks-i-lt2 c = step_none _ _ _ _ (omega arith) (omega arith)
+returns-then-chunks-i-lt2 c = step_none c.args.chunks.now c.args.i c.args.left c.args.since (omega arith) (omega arith)
 
 pub returns-then-chunk-lt-VECTOR : goal.returns-then-chunk-lt-VECTOR
 returns-then-chunk-lt-VECTOR c = step_one _ _ _ _ _ _ _ c.one_part.ensures (omega arith) (omega arith) c.pair_at-chunk.ensures
@@ -24,7 +24,5 @@ overflow_sub-result c = sweeping_few _ _ _ _ _ c.sweep-swept.ensures
 
 pub returns : goal.returns
 returns c =
-    let fours = c.nearer-fours.ensures in
-    let fits = c.nearer-2.ensures in
     let some = c.if-fours-eq0.false in
     step_fours _ _ _ _ _ _ _ c.sweep-swept.ensures (types_tested _ c.if-swept.false) (omega arith) (omega arith) (omega arith)

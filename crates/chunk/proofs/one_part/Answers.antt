@@ -6,25 +6,15 @@ use borrow.Author.Tests.{eq-eqb, ne_eqb, lt-ltb}
 use Rattle.chunk.proofs.one_part.Goals as goal
 
 pub returns-then-chunk-eq0 : goal.returns-then-chunk-eq0
-returns-then-chunk-eq0 c =
-    let args = c.args in
-    record {
-      none = λ e. rw (eq-eqb args.chunk 0 c.if-chunk-eq0.true) (ne_eqb args.left 0 (λ z. omega arith));
-      stands = λ h. absurd (omega arith);
-      two = λ h. absurd (omega arith);
-      packets = λ h. absurd (omega arith);
-      lost = λ h. absurd (omega arith);
-      row = omega arith;
-    }
+returns-then-chunk-eq0 c = rw (eq-eqb c.args.chunk 0 c.if-chunk-eq0.true) (ne_eqb c.args.left 0 (λ z. omega arith))
 
 pub returns : goal.returns
 returns c =
     let args = c.args in
     record {
-      none = λ e. absurd (omega arith);
-      stands = λ h. rw (ne_eqb args.chunk 0 c.if-chunk-eq0.false, lt-ltb 0 args.left (omega arith));
-      two = λ h. refl;
-      packets = λ h. c.nearer-packets.ensures ∙ ap (λ (n : ℕ). min n args.left) c.span-whole.ensures;
-      lost = λ h. c.lost_among.ensures;
+      stands = rw (ne_eqb args.chunk 0 c.if-chunk-eq0.false, lt-ltb 0 args.left (omega arith));
+      two = refl;
+      packets = c.min-packets.ensures ∙ ap (λ (n : ℕ). min n args.left) c.span-whole.ensures;
+      lost = c.lost_among.ensures;
       row = omega arith;
     }

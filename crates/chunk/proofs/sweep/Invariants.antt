@@ -1,10 +1,6 @@
 -- `chunk::sweep` meets its contract. The loop's invariant is `Sweeping`. Assumes nothing.
-use Prim.Native.Nat.{◌-◌, ◌≤◌}
 use Rattle.chunk.specs.Steps.{Sweeping}
 use Rattle.chunk.proofs.sweep.Given as goal
 
 abbrev pub invariant-loop-k : goal.invariant-loop-k
-invariant-loop-k l = Sweeping l.chunks l.i l.k l.all l.ones × (l.k ≤ l.fours)
-
-abbrev pub decreases-loop-k : goal.decreases-loop-k
-decreases-loop-k l = l.fours - l.k
+invariant-loop-k l = Sweeping l.chunks l.i l.k l.all l.ones

@@ -1,11 +1,7 @@
 -- `unroll::put_bits` meets its contract. The loop's invariant is `Filling`. Assumes nothing.
-use Prim.Native.Nat.{◌-◌}
 use Rattle.chunk.specs.Chunks.{vector_bits, vector_of}
 use Rattle.unroll.proofs.Filling.{Filling}
 use Rattle.unroll.proofs.put_bits.Given as goal
 
 abbrev pub invariant-loop-j : goal.invariant-loop-j
-invariant-loop-j l = Filling l.initial.out l.at l.n (vector_of vector_bits l.bits) l.out l.j
-
-abbrev pub decreases-loop-j : goal.decreases-loop-j
-decreases-loop-j l = l.n - l.j
+invariant-loop-j l = Filling l.initial.out (vector_of vector_bits l.bits) l.out l.j

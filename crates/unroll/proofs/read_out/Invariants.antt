@@ -1,11 +1,7 @@
 -- `unroll::read_out` meets its contract. The loop's invariant is `ReadingOut`. Assumes nothing.
-use Prim.Native.Nat.{◌-◌}
-use lib.ListN.{length}
+use mathlib.Core.Path.{◌≡◌}
 use Rattle.unroll.proofs.ReadingOut.{ReadingOut}
 use Rattle.unroll.proofs.read_out.Given as goal
 
-abbrev pub invariant-loop-i : goal.invariant-loop-i
-invariant-loop-i l = ReadingOut l.chunks l.initial.out l.out l.end l.at l.i
-
-abbrev pub decreases-loop-i : goal.decreases-loop-i
-decreases-loop-i l = length l.chunks - l.i
+abbrev pub invariant-loop-pair : goal.invariant-loop-pair
+invariant-loop-pair l = (l.pair-iterator.size ≡ 2) × ReadingOut l.chunks l.initial.out l.out l.pair-iterator.rest.now l.end l.at
