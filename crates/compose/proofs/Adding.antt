@@ -12,10 +12,6 @@ use lib.Seq.{length-take-le, take-append-le, drop-append-le}
 use Rattle.refusal.specs.Table.{buffer_short, packet_full}
 use Rattle.refusal.specs.Answer.{unless, after}
 use Rattle.refusal.specs.declared.Refusal.{Refusal}
-use Rattle.refusal.specs.declared.Judged.{Judged}
-use Rattle.refusal.specs.declared.Judged.TheVariants.{Accepted, Refused as Judged-as-Refused}
-use Rattle.refusal.specs.declared.Written.{Written}
-use Rattle.refusal.specs.declared.Written.TheVariants.{Size, Refused}
 use Rattle.refusal.proofs.Tests.{passed}
 use Rattle.wire.specs.BigEndian.{bytes16, bytes32, placed}
 use Rattle.wire.proofs.Placed.{placed_in, length_placed, placed_more}
@@ -28,16 +24,18 @@ use Rattle.frame.specs.Packet.{Packet, good, bad, size_in, front_packet}
 use Rattle.frame.proofs.FirstBytes.{head_facts, head_bounds}
 use Rattle.frame.proofs.Filling.{packet_exactly}
 use Rattle.compose.specs.Writing.{new_bytes, new_answer, length_after, length_max, size_after, appended, append_answer, grown, add_answer}
+use Rattle.std.specs.Prelude.{Ok, Err}
+use Rattle.refusal.specs.Answer.{Judged, Written}
 
 -- a new packet
 abbrev pub Made : List ℕ → ℕ → Written → List ℕ → Type 0
 Made s sender r out = (r ≡ new_answer s) × (out ≡ after (new_answer s) (new_bytes sender) s)
 
-pub made_refused : (s : List ℕ) (sender : ℕ) → length s < first_block → Made s sender (Refused buffer_short) s
+pub made_refused : (s : List ℕ) (sender : ℕ) → length s < first_block → Made s sender (Err buffer_short) s
 made_refused s sender h = rw (lt-leb first_block (length s) h) (refl, refl)
 
 pub made : (s : List ℕ) (sender : ℕ) (out : List ℕ) → first_block ≤ length s →
-    out ≡ placed (placed s 0 (bytes32 2161049601)) 4 (bytes32 sender) → Made s sender (Size first_block) out
+    out ≡ placed (placed s 0 (bytes32 2161049601)) 4 (bytes32 sender) → Made s sender (Ok first_block) out
 made s sender out h e =
     rw (le-leb first_block (length s) h)
     (refl, e ∙ placed_more s 0 (bytes32 2161049601) (bytes32 sender) h ∙ placed_in s 0 (bytes32 2161049601 ++ bytes32 sender) h)
@@ -53,26 +51,26 @@ front_room s sender es p = let b = front_bounds s sender es p in omega arith
 
 -- the cases of appending n words
 module _ (s : List ℕ) (own : Judged) (n : ℕ) where
-  pub front_bad : (r : Refusal) → front_packet s ≡ bad r → Refused r ≡ append_answer s own n
+  pub front_bad : (r : Refusal) → front_packet s ≡ bad r → Err r ≡ append_answer s own n
   unfolding append_answer
   front_bad r p = rw p
 
   module _ (sender : ℕ) (es : List Entry) (p : front_packet s ≡ good sender es) where
-    pub own_bad : (r : Refusal) → own ≡ Judged-as-Refused r → Refused r ≡ append_answer s own n
+    pub own_bad : (r : Refusal) → own ≡ Err r → Err r ≡ append_answer s own n
     unfolding append_answer
     own_bad r o = rw (p, o)
 
-    module _ (o : own ≡ Accepted) where
-      pub full : length_max < length_after s n → Refused packet_full ≡ append_answer s own n
+    module _ (o : own ≡ (Ok (tt {0}))) where
+      pub full : length_max < length_after s n → Err packet_full ≡ append_answer s own n
       unfolding append_answer
       full h = rw (p, o, lt-leb (length_after s n) length_max h)
 
       module _ (few : length_after s n ≤ length_max) where
-        pub no_room : length s < size_after s n → Refused buffer_short ≡ append_answer s own n
+        pub no_room : length s < size_after s n → Err buffer_short ≡ append_answer s own n
         unfolding append_answer
         no_room h = rw (p, o, le-leb (length_after s n) length_max few, lt-leb (size_after s n) (length s) h)
 
-        pub has_room : size_after s n ≤ length s → Size (size_after s n) ≡ append_answer s own n
+        pub has_room : size_after s n ≤ length s → Ok (size_after s n) ≡ append_answer s own n
         unfolding append_answer
         has_room h = rw (p, o, le-leb (length_after s n) length_max few, le-leb (size_after s n) (length s) h)
 
@@ -81,22 +79,22 @@ pub record Fit (s : List ℕ) (own : Judged) (n size : ℕ) : Type 0 where
   pub sender : ℕ
   pub blocks : List Entry
   pub packet : front_packet s ≡ good sender blocks
-  pub accepted : own ≡ Accepted
+  pub accepted : own ≡ Ok (tt {0})
   pub few : length_after s n ≤ length_max
   pub room : size_after s n ≤ length s
   pub is : size ≡ size_after s n
 
-pub fit : (s : List ℕ) (own : Judged) (n size : ℕ) → append_answer s own n ≡ Size size → Fit s own n size
+pub fit : (s : List ℕ) (own : Judged) (n size : ℕ) → append_answer s own n ≡ Ok size → Fit s own n size
 unfolding append_answer
 fit s own n size h = go (front_packet s) own refl refl h
   where
-    past_no : (t : _) (r : Refusal) (rest : Written) → unless t (Refused r) rest ≡ Size size → (t ≡ true) × (rest ≡ Size size)
-    past_no t r rest e = passed t (Refused r) rest (Size size) (λ x. let z : ◌≡◌ {A = ℕ} 0 1 = cc in omega arith) e
+    past_no : (t : _) (r : Refusal) (rest : Written) → unless t (Err r) rest ≡ Ok size → (t ≡ true) × (rest ≡ Ok size)
+    past_no t r rest e = passed t (Err r) rest (Ok size) (λ x. let z : ◌≡◌ {A = ℕ} 0 1 = cc in omega arith) e
 
-    go : (p : Packet) (j : Judged) → front_packet s ≡ p → own ≡ j → appended p j s n ≡ Size size → Fit s own n size
+    go : (p : Packet) (j : Judged) → front_packet s ≡ p → own ≡ j → appended p j s n ≡ Ok size → Fit s own n size
     go (bad r) j p o e = let z : ◌≡◌ {A = ℕ} 0 1 = cc in absurd (omega arith)
-    go (good sender es) (Judged-as-Refused r) p o e = let z : ◌≡◌ {A = ℕ} 0 1 = cc in absurd (omega arith)
-    go (good sender es) Accepted p o e =
+    go (good sender es) (Err r) p o e = let z : ◌≡◌ {A = ℕ} 0 1 = cc in absurd (omega arith)
+    go (good sender es) (Ok _) p o e =
         let one = past_no (leb (length_after s n) length_max) packet_full _ e in
         let two = past_no (leb (size_after s n) (length s)) buffer_short _ one.1 in
         let last = two.1 in
@@ -165,11 +163,11 @@ written_words s own words size out out' f p q =
 abbrev pub Wrote : List ℕ → Block → Written → List ℕ → Type 0
 Wrote s b r out = (r ≡ add_answer s b) × (out ≡ after (add_answer s b) (grown s (words_of b)) s)
 
-pub not_added : (s : List ℕ) (b : Block) (r : Refusal) → add_answer s b ≡ Refused r → Wrote s b (Refused r) s
+pub not_added : (s : List ℕ) (b : Block) (r : Refusal) → add_answer s b ≡ Err r → Wrote s b (Err r) s
 not_added s b r e = rw e (refl, refl)
 
-pub added : (s : List ℕ) (b : Block) (own : Judged) (count size : ℕ) (out out' : List ℕ) → count ≡ length (words_of b) → (f : Fit s own count size) → add_answer s b ≡ Size size →
-    out ≡ placed s (size - 4 * count) (bytes_of b) → out' ≡ placed out 2 (bytes16 (size / 4 - 1)) → Wrote s b (Size size) out'
+pub added : (s : List ℕ) (b : Block) (own : Judged) (count size : ℕ) (out out' : List ℕ) → count ≡ length (words_of b) → (f : Fit s own count size) → add_answer s b ≡ Ok size →
+    out ≡ placed s (size - 4 * count) (bytes_of b) → out' ≡ placed out 2 (bytes16 (size / 4 - 1)) → Wrote s b (Ok size) out'
 unfolding bytes_of
 added s b own count size out out' c f e p q =
     rw e (refl, written_words s own (words_of b) size out out' (rw (← c) f) (p ∙ ap (λ (n : ℕ). placed s (size - 4 * n) (in_bytes (words_of b))) c) q)

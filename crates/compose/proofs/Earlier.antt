@@ -5,22 +5,20 @@ use mathlib.Core.Bool.{Bool, true, false, ◌||◌}
 use mathlib.Core.Logic.{◌⊎◌, inl, inr}
 use mathlib.Core.List.{List, [], ◌∷◌, ◌++◌}
 use lib.ListN.{length}
-use Rattle.block.specs.Types.{unmeasured}
 use Rattle.block.specs.Reading.{needs_of}
 use Rattle.block.specs.declared.Block.{Block}
 use Rattle.block.specs.declared.BlockRead.{BlockRead}
 use Rattle.block.specs.declared.BlockRead.TheVariants.{Typed, Rle, Unknown, Dropped}
-use Rattle.block.specs.declared.Needs.{Needs}
-use Rattle.block.specs.declared.Needs.TheVariants.{Nothing, MeasurementOf}
 use Rattle.frame.specs.Frames.{Entry}
-use Rattle.frame.specs.Packet.{Numbered, none, one, good, numbered}
+use Rattle.frame.specs.Packet.{good, numbered}
 use Rattle.frame.proofs.Numbering.{number_front}
 use Rattle.packet.specs.Blocks.{read_alone, measures, measured, read_among}
-use Rattle.packet.specs.Answers.{found, body_in, start_in}
-use Rattle.packet.specs.declared.BlockAt.TheVariants.{Found}
+use Rattle.packet.specs.Answers.{found, body_in, start_in, answered}
 use Rattle.frame.specs.Packet.{size_in}
 use Rattle.compose.specs.Laws.{entry_of, Lifted, Kept, EarlierKept}
 use Rattle.compose.proofs.Growing.{added_good}
+use Rattle.std.specs.Prelude.{Option, Some, None}
+use Rattle.block.specs.declared.Reason.TheVariants.{Unmeasured}
 
 pub measured_behind : (source : ℕ) (es : List Entry) (e : Entry) → measured source (es ++ e ∷ []) ≡ (measured source es || measures source e)
 unfolding measured
@@ -39,9 +37,9 @@ measured_behind source (x ∷ es) e = ap (λ (t : Bool). measures source x || t)
 record Freed (es : List Entry) (e : Entry) (own : BlockRead) : Type 0 where
   block : Block
   source : ℕ
-  needs : needs_of block ≡ MeasurementOf source
+  needs : needs_of block ≡ Some source
   measured_now : measures source e ≡ true
-  was : read_among es own ≡ Dropped unmeasured
+  was : read_among es own ≡ Dropped Unmeasured
   is : read_among (es ++ e ∷ []) own ≡ Typed block
 
 kept : (es : List Entry) (e : Entry) (own : BlockRead) → (read_among (es ++ e ∷ []) own ≡ read_among es own) ⊎ Freed es e own
@@ -50,9 +48,9 @@ kept es e Unknown = inl refl
 kept es e (Dropped reason) = inl refl
 kept es e (Typed b) = go (needs_of b) refl
   where
-    go : (n : Needs) → needs_of b ≡ n → (read_among (es ++ e ∷ []) (Typed b) ≡ read_among es (Typed b)) ⊎ Freed es e (Typed b)
-    go Nothing q = inl (rw q refl)
-    go (MeasurementOf source) q = turn (measured source es) refl (measures source e) refl
+    go : (n : Option ℕ) → needs_of b ≡ n → (read_among (es ++ e ∷ []) (Typed b) ≡ read_among es (Typed b)) ⊎ Freed es e (Typed b)
+    go None q = inl (rw q refl)
+    go (Some source) q = turn (measured source es) refl (measures source e) refl
       where
         turn : (old : Bool) → measured source es ≡ old → (new : Bool) → measures source e ≡ new →
             (read_among (es ++ e ∷ []) (Typed b) ≡ read_among es (Typed b)) ⊎ Freed es e (Typed b)
@@ -70,9 +68,9 @@ kept_at sender es e k h =
       go (numbered es k) refl,
     )
   where
-    by : (x : Entry) → numbered es k ≡ one x → (read_among (es ++ e ∷ []) (read_alone x) ≡ read_among es (read_alone x)) ⊎ Freed es e (read_alone x) →
+    by : (x : Entry) → numbered es k ≡ Some x → (read_among (es ++ e ∷ []) (read_alone x) ≡ read_among es (read_alone x)) ⊎ Freed es e (read_alone x) →
         (found (es ++ e ∷ []) (numbered (es ++ e ∷ []) k) ≡ found es (numbered es k)) ⊎ Lifted (good sender es) (good sender (es ++ e ∷ [])) e k
-    by x n (inl same) = inl (rw (number_front es (e ∷ []) k h, n) (ap (Found x.kind) same))
+    by x n (inl same) = inl (rw (number_front es (e ∷ []) k h, n) (ap (answered x.kind) same))
     by x n (inr f) =
         inr (record {
           type = x.kind;
@@ -80,14 +78,14 @@ kept_at sender es e k h =
           source = f.source;
           needs = f.needs;
           measured_now = f.measured_now;
-          was = rw n (ap (Found x.kind) f.was);
-          is = rw (number_front es (e ∷ []) k h, n) (ap (Found x.kind) f.is);
+          was = rw n (ap (answered x.kind) f.was);
+          is = rw (number_front es (e ∷ []) k h, n) (ap (answered x.kind) f.is);
         })
 
-    go : (n : Numbered) → numbered es k ≡ n →
+    go : (n : Option Entry) → numbered es k ≡ n →
         (found (es ++ e ∷ []) (numbered (es ++ e ∷ []) k) ≡ found es (numbered es k)) ⊎ Lifted (good sender es) (good sender (es ++ e ∷ [])) e k
-    go none n = inl (rw (number_front es (e ∷ []) k h, n))
-    go (one x) n = by x n (kept es e (read_alone x))
+    go None n = inl (rw (number_front es (e ∷ []) k h, n))
+    go (Some x) n = by x n (kept es e (read_alone x))
 
 pub earlier_kept : EarlierKept
 earlier_kept s own type specific body sender es n k a h =

@@ -11,8 +11,6 @@ use lib.ListN.{length, get_or, take, drop, length-drop}
 use lib.Seq.{length-take-le, take_at, get_or-take, get_or-drop, get_or-append-add, ext_get_or}
 use Rattle.refusal.specs.Table.{buffer_short}
 use Rattle.refusal.specs.Answer.{after}
-use Rattle.refusal.specs.declared.Written.{Written}
-use Rattle.refusal.specs.declared.Written.TheVariants.{Size, Refused}
 use Rattle.refusal.proofs.Tests.{passed}
 use Rattle.wire.specs.BigEndian.{be16, be32, u16_at, bytes16, placed}
 use Rattle.wire.proofs.Numbers.{u16_inside}
@@ -32,6 +30,8 @@ use Rattle.frame.proofs.Kept.{Agree, fill_kept}
 use Rattle.compose.specs.Writing.{new_bytes, length_after, grown}
 use Rattle.compose.specs.Laws.{after_new, after_append, NewRead, entry_of, AppendedGood}
 use Rattle.compose.proofs.Adding.{fit, front_bounds, placed_words}
+use Rattle.std.specs.Prelude.{Ok, Err}
+use Rattle.refusal.specs.Answer.{Written}
 
 -- a buffer with a block's bytes behind the first `size` and a length field: each of its bytes
 module _ (s : List ℕ) (size field : ℕ) (bytes : List ℕ) (low : first_block ≤ size) (room : size + length bytes ≤ length s) where
@@ -190,7 +190,7 @@ added_good s own type specific body sender es n a =
 pub new_read : NewRead
 unfolding be16 be32
 new_read s sender n small h =
-    let one = passed (leb first_block (length s)) (Refused buffer_short) _ (Size n) (λ e. let z : ◌≡◌ {A = ℕ} 0 1 = cc in omega arith) h in
+    let one = passed (leb first_block (length s)) (Err buffer_short) _ (Ok n) (λ e. let z : ◌≡◌ {A = ℕ} 0 1 = cc in omega arith) h in
     let last = one.1 in
     let e : n ≡ first_block = cc in
     let is : after_new s sender ≡ new_bytes sender ++ drop n s = ap (λ (r : Written). after r (new_bytes sender) s) h in (

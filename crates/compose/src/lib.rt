@@ -8,8 +8,8 @@ ghost use Rattle.encode.specs.Words.{words_of};
 ghost use Rattle.compose.specs.Writing.{new_bytes, new_answer, append_answer, grown, own_of, add_answer};
 
 use block::Block;
-use frame::{Extent, Located};
-use refusal::{Judged, Written};
+use frame::Extent;
+use refusal::Refusal;
 
 // 80 CF 00 01: version 2, no padding, type 207 and a length field of 1, the first word of a packet with no blocks.
 const EMPTY_FIRST_WORD: u32 = 2_161_049_601;
@@ -17,63 +17,56 @@ const EMPTY_FIRST_WORD: u32 = 2_161_049_601;
 const LENGTH_MAX: usize = 65_535;
 
 // A packet with this sender and no blocks, in the first eight bytes of out.
-pub fn new_packet(out: &mut [u8], sender: u32) -> Written
+pub fn new_packet(out: &mut [u8], sender: u32) -> Result<usize, Refusal>
     ensures answer { result ≡ new_answer out.old }
     ensures buffer { out.new ≡ after (new_answer out.old) (new_bytes sender) out.old }
 {
     if out.len() < frame::FIRST_BLOCK {
-        return Written::Refused(refusal::BUFFER_SHORT);
+        return Err(Refusal::BufferShort);
     }
     wire::put_u32(out, 0, EMPTY_FIRST_WORD);
     wire::put_u32(out, 4, sender);
-    Written::Size(frame::FIRST_BLOCK)
+    Ok(frame::FIRST_BLOCK)
 }
 
 // Adds a block to the packet at the front of out, and answers the packet's new size in bytes. What is already
 // there is walked once, as refusal 6 asks.
-pub fn add(out: &mut [u8], b: Block) -> Written
+pub fn add(out: &mut [u8], b: Block) -> Result<usize, Refusal>
     ensures answer { result ≡ add_answer out.old b }
     ensures buffer { out.new ≡ after (add_answer out.old b) (grown out.old (words_of b)) out.old }
 {
-    let count = encode::words(b).count;
-    match judge_append(out, judge_block(b), count) {
-        Written::Size(size) => {
-            encode::write(out, size - 4 * count, b);
-            wire::put_u16(out, 2, (size / 4 - 1) as u16);
-            Written::Size(size)
-        }
-        Written::Refused(r) => Written::Refused(r),
-    }
+    let words = encode::words(b);
+    let count = words.as_slice().len();
+    let size = judge_append(out, judge_block(b), count)?;
+    encode::write(out, size - 4 * count, b);
+    wire::put_u16(out, 2, (size / 4 - 1) as u16);
+    Ok(size)
 }
 
 // Whether a block of this many words, with its own refusals judged, can be appended to the packet at the front of s: the
 // packet's size with it, or why not.
-pub fn judge_append(s: &[u8], own: Judged, words: usize) -> Written
+pub fn judge_append(s: &[u8], own: Result<(), Refusal>, words: usize) -> Result<usize, Refusal>
     ensures { result ≡ append_answer s.now own words }
 {
-    if let Located::Refused(r) = frame::locate(s, Extent::Front, 0) {
-        return Written::Refused(r);
-    }
-    if let Judged::Refused(r) = own {
-        return Written::Refused(r);
-    }
+    frame::locate(s, Extent::Front, 0)?;
+    own?;
     let length = wire::u16_at(s, 2) as usize;
     if LENGTH_MAX - length < words {
-        return Written::Refused(refusal::PACKET_FULL);
+        return Err(Refusal::PacketFull);
     }
     let size = 4 * (length + words + 1);
     if s.len() < size {
-        return Written::Refused(refusal::BUFFER_SHORT);
+        return Err(Refusal::BufferShort);
     }
-    Written::Size(size)
+    Ok(size)
 }
 
 // A typed block's own refusal: 16.
-fn judge_block(b: Block) -> Judged
+fn judge_block(b: Block) -> Result<(), Refusal>
     ensures { result ≡ own_of b }
 {
     if !encode::writable(b) {
-        return Judged::Refused(refusal::BLOCK_VALUE);
+        return Err(Refusal::BlockValue);
     }
-    Judged::Accepted
+    Ok(())
 }

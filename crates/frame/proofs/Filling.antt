@@ -4,16 +4,16 @@ use Prim.Native.Nat.{ℕ, zero, suc, ◌<◌, ◌≤◌}
 use mathlib.Core.Path.{◌≡◌, refl, sym, ap, ◌∙◌}
 use mathlib.Core.List.{List, [], ◌∷◌, ◌++◌}
 use native.Mathlib.Omega.{arith}
+use Rattle.std.proofs.Common.{Result, Ok, Err}
 use native.Mathlib.Decide.{dec_lt, dec_le}
-use Rattle.refusal.specs.Table.{block_past_end}
+use Rattle.refusal.specs.Table.{block_past_end, refusal_number}
 use Rattle.refusal.specs.declared.Refusal.{Refusal}
 use Rattle.frame.specs.declared.Extent.{Extent}
 use Rattle.frame.specs.declared.Header.{Header}
-use Rattle.frame.specs.declared.Header.TheVariants.{Sender, Refused}
 use Rattle.frame.specs.Frames.{Entry, Frames, whole, past, before, next_at, entry_at, first_block, frames_from, frames_in}
 use Rattle.frame.specs.Packet.{good, bad, of_frames, framed, header_of, packet_in}
 use Rattle.frame.specs.Laws.{Fill, BlocksFill, Leads, BlocksPast, IsPacket, PacketExactly, RunsPast, PastExactly}
-use Rattle.frame.proofs.FirstBytes.{head_bounds, head_numbers}
+use Rattle.frame.proofs.FirstBytes.{read_as, head_bounds, head_numbers}
 use Rattle.frame.proofs.Stepping.{first_of, at_next, at_past, at_end, frames_end, frames_past, frames_next}
 
 pub fill_up : (s : List ℕ) (es : List Entry) (at to : ℕ) → Fill s at to es → at ≤ to
@@ -61,16 +61,16 @@ made : (extent : Extent) (s : List ℕ) (sender : ℕ) (es : List Entry) → pac
 unfolding packet_in
 made extent s sender es p = go (header_of extent s) refl p
   where
-    within : (from size : ℕ) (frames : Frames) → header_of extent s ≡ Sender from size → frames_in s first_block size ≡ frames → of_frames from frames ≡ good sender es → IsPacket extent s sender es
+    within : (from size : ℕ) (frames : Frames) → header_of extent s ≡ read_as from size → frames_in s first_block size ≡ frames → of_frames from frames ≡ good sender es → IsPacket extent s sender es
     within from size (whole fs) h f e =
         let same : from ≡ sender = cc in
         let blocks : fs ≡ es = cc in
         record { size = size; header = rw (← same) h; fill = fills s es first_block size (head_bounds extent s from size h).0 (f ∙ ap whole blocks) }
     within from size (past offset) h f e = let z : ◌≡◌ {A = ℕ} 0 1 = cc in absurd (omega arith)
 
-    go : (header : Header) → header_of extent s ≡ header → framed header s ≡ good sender es → IsPacket extent s sender es
-    go (Sender from size) h e = within from size (frames_in s first_block size) h refl e
-    go (Refused r) h e = let z : ◌≡◌ {A = ℕ} 0 1 = cc in absurd (omega arith)
+    go : (header : Result Header Refusal) → header_of extent s ≡ header → framed header s ≡ good sender es → IsPacket extent s sender es
+    go (Ok header) h e = within header.sender header.size (frames_in s first_block header.size) h refl e
+    go (Err r) h e = let z : ◌≡◌ {A = ℕ} 0 1 = cc in absurd (omega arith)
 
 pub packet_exactly : PacketExactly
 unfolding packet_in
@@ -115,38 +115,38 @@ past_means : (extent : Extent) (s : List ℕ) (offset : ℕ) → packet_in exten
 unfolding packet_in
 past_means extent s offset p = go (header_of extent s) refl p
   where
-    within : (sender size : ℕ) (frames : Frames) → header_of extent s ≡ Sender sender size → frames_in s first_block size ≡ frames → of_frames sender frames ≡ bad (block_past_end offset) → RunsPast extent s offset
+    within : (sender size : ℕ) (frames : Frames) → header_of extent s ≡ read_as sender size → frames_in s first_block size ≡ frames → of_frames sender frames ≡ bad (block_past_end offset) → RunsPast extent s offset
     within sender size (whole es) h f e = let z : ◌≡◌ {A = ℕ} 0 1 = cc in absurd (omega arith)
     within sender size (past o) h f e =
         let refusals : block_past_end o ≡ block_past_end offset = cc in
-        let same : o ≡ offset = ap (λ (q : Refusal). q.place) refusals in
+        let same : o ≡ offset = cc in
         record { sender = sender; size = size; header = h; leads = leads size s first_block size offset (f ∙ ap past same) }
 
-    go : (header : Header) → header_of extent s ≡ header → framed header s ≡ bad (block_past_end offset) → RunsPast extent s offset
-    go (Sender sender size) h e = within sender size (frames_in s first_block size) h refl e
-    go (Refused r) h e =
+    go : (header : Result Header Refusal) → header_of extent s ≡ header → framed header s ≡ bad (block_past_end offset) → RunsPast extent s offset
+    go (Ok header) h e = within header.sender header.size (frames_in s first_block header.size) h refl e
+    go (Err r) h e =
         let same : r ≡ block_past_end offset = cc in
         let few = head_numbers extent s r h in
-        let six = ap (λ (q : Refusal). q.number) same in
+        let six = ap refusal_number same in
         absurd (omega arith)
 
 -- a refused packet has one of the refusals 1 to 6
-pub packet_numbers : (extent : Extent) (s : List ℕ) (r : Refusal) → packet_in extent s ≡ bad r → r.number ≤ 6
+pub packet_numbers : (extent : Extent) (s : List ℕ) (r : Refusal) → packet_in extent s ≡ bad r → refusal_number r ≤ 6
 unfolding packet_in
 packet_numbers extent s r p = go (header_of extent s) refl p
   where
-    within : (sender : ℕ) (frames : Frames) → of_frames sender frames ≡ bad r → r.number ≤ 6
+    within : (sender : ℕ) (frames : Frames) → of_frames sender frames ≡ bad r → refusal_number r ≤ 6
     within sender (whole es) e = let z : ◌≡◌ {A = ℕ} 0 1 = cc in absurd (omega arith)
     within sender (past offset) e =
         let same : block_past_end offset ≡ r = cc in
-        let six = ap (λ (q : Refusal). q.number) same in
+        let six = ap refusal_number same in
         omega arith
 
-    go : (header : Header) → header_of extent s ≡ header → framed header s ≡ bad r → r.number ≤ 6
-    go (Sender sender size) h e = within sender (frames_in s first_block size) e
-    go (Refused q) h e =
+    go : (header : Result Header Refusal) → header_of extent s ≡ header → framed header s ≡ bad r → refusal_number r ≤ 6
+    go (Ok header) h e = within header.sender (frames_in s first_block header.size) e
+    go (Err q) h e =
         let same : q ≡ r = cc in
-        let few = head_numbers extent s r (h ∙ ap Refused same) in
+        let few = head_numbers extent s r (h ∙ ap Err same) in
         omega arith
 
 pub past_exactly : PastExactly

@@ -1,6 +1,7 @@
 pub mod FirstBytes
 pub mod Stepping
 pub mod Blocks
+pub mod Parting
 pub mod Walking
 pub mod Filling
 pub mod Locating

@@ -3,16 +3,17 @@ use Prim.Native.Nat.{ℕ, zero, suc, ◌<◌, ◌≤◌}
 use mathlib.Core.Path.{◌≡◌, refl}
 use mathlib.Core.List.{List, [], ◌∷◌, ◌++◌}
 use native.Mathlib.Omega.{arith}
+use Rattle.std.proofs.Common.{Some, None}
 use lib.ListN.{length, get_or}
 use Rattle.wire.specs.BigEndian.{be16}
 use Rattle.frame.specs.declared.Extent.TheVariants.{Whole}
 use Rattle.frame.specs.Frames.{Entry, whole, next_at, entry_at, first_block, frames_of}
-use Rattle.frame.specs.Packet.{good, none, one, numbered, place_of, packet_of}
+use Rattle.frame.specs.Packet.{good, numbered, place_at, place_of, packet_of}
 use Rattle.frame.specs.Laws.{Fill}
 use Rattle.frame.proofs.FirstBytes.{head_facts, whole_length}
 use Rattle.frame.proofs.Filling.{full, fill_up, packet_exactly}
 
-pub number_none : (es : List Entry) (k : ℕ) → length es ≤ k → numbered es k ≡ none
+pub number_none : (es : List Entry) (k : ℕ) → length es ≤ k → numbered es k ≡ None
 unfolding numbered
 number_none [] k h = refl
 number_none (e ∷ es) zero h = absurd (omega arith)
@@ -24,14 +25,27 @@ number_front [] fs k h = absurd (omega arith)
 number_front (e ∷ es) fs zero h = refl
 number_front (e ∷ es) fs (suc k) h = number_front es fs k (omega arith)
 
-pub number_last : (es : List Entry) (e : Entry) → numbered (es ++ e ∷ []) (length es) ≡ one e
+pub number_last : (es : List Entry) (e : Entry) → numbered (es ++ e ∷ []) (length es) ≡ Some e
 unfolding numbered
 number_last [] e = refl
 number_last (x ∷ es) e = number_last es e
 
+-- where it stands, and that there is none
+pub place_some : (es : List Entry) (k at : ℕ) → place_at es k ≡ Some at → (k < length es) × (at ≡ place_of es k)
+unfolding numbered
+place_some [] k at h = let z : ◌≡◌ {A = ℕ} 0 1 = cc in absurd (omega arith)
+place_some (e ∷ es) zero at h = (omega arith, cc)
+place_some (e ∷ es) (suc k) at h = let rest = place_some es k at h in (omega (arith, rest.0), rest.1)
+
+pub place_none : (es : List Entry) (k : ℕ) → place_at es k ≡ None → length es ≤ k
+unfolding numbered
+place_none [] k h = omega arith
+place_none (e ∷ es) zero h = let z : ◌≡◌ {A = ℕ} 0 1 = cc in absurd (omega arith)
+place_none (e ∷ es) (suc k) h = let rest = place_none es k h in omega (arith, rest)
+
 -- of blocks that fill bytes, it stands at its place and ends inside
 pub record Stands (s : List ℕ) (at to : ℕ) (es : List Entry) (k : ℕ) : Type 0 where
-  pub entry : numbered es k ≡ one (entry_at s (place_of es k))
+  pub entry : numbered es k ≡ Some (entry_at s (place_of es k))
   pub low : at ≤ place_of es k
   pub ends : next_at s (place_of es k) ≤ to
 

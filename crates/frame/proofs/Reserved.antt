@@ -4,12 +4,13 @@ use Prim.Native.Nat.{ℕ, zero, suc, ◌+◌, ◌/◌, ◌<◌}
 use mathlib.Core.Path.{◌≡◌, refl}
 use mathlib.Core.List.{List, [], ◌∷◌}
 use native.Mathlib.Omega.{arith}
+use Rattle.std.proofs.Common.{Result, Ok, Err}
+use Rattle.refusal.specs.declared.Refusal.{Refusal}
 use lib.ListN.{get_or, set, length-set}
 use lib.Seq.{get_or-set_other, drop-set-lt}
 use Rattle.wire.specs.BigEndian.{be16, be32, u16_at}
 use Rattle.frame.specs.declared.Extent.{Extent}
 use Rattle.frame.specs.declared.Header.{Header}
-use Rattle.frame.specs.declared.Header.TheVariants.{Sender, Refused}
 use Rattle.frame.specs.Frames.{next_at, entry_at, frames_from, first_block}
 use Rattle.frame.specs.Packet.{header_of, framed, packet_in}
 use Rattle.frame.specs.Laws.{ReservedFirst}
@@ -40,6 +41,6 @@ pub reserved_first : ReservedFirst
 unfolding packet_in
 reserved_first extent s b same = rw (header_set extent s b same) (go (header_of extent s))
   where
-    go : (header : Header) → framed header (set s 0 b) ≡ framed header s
-    go (Sender sender size) = rw (frames_set s b size first_block size (omega arith))
-    go (Refused r) = refl
+    go : (header : Result Header Refusal) → framed header (set s 0 b) ≡ framed header s
+    go (Ok header) = rw (frames_set s b header.size first_block header.size (omega arith))
+    go (Err r) = refl

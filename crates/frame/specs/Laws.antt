@@ -1,8 +1,7 @@
 -- What callers may lean on, as statements about the definitions that the calls promise. Proved in proofs/.
-use Rattle.std.specs.Prelude.{ℕ, ◌+◌, ◌/◌, ◌<◌, ◌≤◌, ◌≡◌, List, [], ◌∷◌, length, get_or, drop, set}
+use Rattle.std.specs.Prelude.{ℕ, ◌+◌, ◌/◌, ◌<◌, ◌≤◌, ◌≡◌, List, [], ◌∷◌, length, get_or, drop, set, Ok}
 use Rattle.refusal.specs.Table.{block_past_end}
 use Rattle.frame.specs.declared.Extent.{Extent}
-use Rattle.frame.specs.declared.Header.TheVariants.{Sender}
 use Rattle.frame.specs.Frames.{Entry, whole, past, body_length, next_at, entry_at, block_at, first_block, frames_in}
 use Rattle.frame.specs.Packet.{good, bad, header_of, packet_in}
 
@@ -45,7 +44,7 @@ BlocksPast = (s : List ℕ) (at to offset : ℕ) → (frames_in s at to ≡ past
 -- a packet with these blocks: a good header, and blocks that fill the size that it names
 pub record IsPacket (extent : Extent) (s : List ℕ) (sender : ℕ) (es : List Entry) : Type 0 where
   pub size : ℕ
-  pub header : header_of extent s ≡ Sender sender size
+  pub header : header_of extent s ≡ Ok (record { sender = sender; size = size })
   pub fill : Fill s first_block size es
 
 abbrev pub PacketExactly : Type 0
@@ -57,7 +56,7 @@ PacketExactly =
 pub record RunsPast (extent : Extent) (s : List ℕ) (offset : ℕ) : Type 0 where
   pub sender : ℕ
   pub size : ℕ
-  pub header : header_of extent s ≡ Sender sender size
+  pub header : header_of extent s ≡ Ok (record { sender = sender; size = size })
   pub leads : Leads s first_block size offset
 
 abbrev pub PastExactly : Type 0

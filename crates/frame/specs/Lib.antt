@@ -1,3 +1,4 @@
 pub mod Frames
 pub mod Packet
 pub mod Laws
+pub mod Parts

@@ -1,7 +1,7 @@
 -- A packet as its sender and its list of blocks, or the refusal: document 01, "The packet" and the order
 -- line "packets 1, 2, 3, 4, 5, 6". "Byte 0: version 2 in the top two bits, padding bit, five reserved bits.
 -- Byte 1: 207. Bytes 2 and 3: packet length in 32-bit words less one. Bytes 4 to 7: sender."
-use Rattle.std.specs.Prelude.{ℕ, zero, suc, ◌+◌, ◌*◌, ◌/◌, ◌%◌, Bool, ◌&&◌, List, [], ◌∷◌, eqb, leb, length, get_or}
+use Rattle.std.specs.Prelude.{ℕ, zero, suc, ◌+◌, ◌*◌, ◌/◌, ◌%◌, Bool, ◌&&◌, List, [], ◌∷◌, eqb, leb, length, get_or, Option, Some, None, Result, Ok, Err}
 use Rattle.refusal.specs.Table.{packet_short, version, packet_type, packet_length, padding, block_past_end}
 use Rattle.refusal.specs.Answer.{unless}
 use Rattle.refusal.specs.declared.Refusal.{Refusal}
@@ -9,11 +9,8 @@ use Rattle.wire.specs.BigEndian.{be16, be32}
 use Rattle.frame.specs.declared.Extent.{Extent}
 use Rattle.frame.specs.declared.Extent.TheVariants.{Whole, Front}
 use Rattle.frame.specs.declared.Header.{Header}
-use Rattle.frame.specs.declared.Header.TheVariants.{Sender, Refused}
 use Rattle.frame.specs.declared.Walked.{Walked}
-use Rattle.frame.specs.declared.Walked.TheVariants.{Blocks, Past}
 use Rattle.frame.specs.declared.Located.{Located}
-use Rattle.frame.specs.declared.Located.TheVariants.{Good, Refused as Located-as-Refused}
 use Rattle.frame.specs.Frames.{Entry, Frames, whole, past, first_block, frames_in}
 
 -- the packet's size in bytes, as its length field has it
@@ -26,14 +23,14 @@ size_fits Whole size room = eqb size room
 size_fits Front size room = leb first_block size && leb size room
 
 -- the first eight bytes judged: the sender and the size, or the first refusal of 1 to 5 that applies
-unfoldable pub header_of : Extent → List ℕ → Header
+unfoldable pub header_of : Extent → List ℕ → Result Header Refusal
 header_of extent s =
-    unless (leb first_block (length s)) (Refused packet_short)
-    (unless (eqb (get_or s 0 0 / 64) 2) (Refused version)
-    (unless (eqb (get_or s 1 0) 207) (Refused packet_type)
-    (unless (size_fits extent (size_in s) (length s)) (Refused packet_length)
-    (unless (eqb (get_or s 0 0 / 32 % 2) 0) (Refused padding)
-    (Sender (be32 s 4) (size_in s))))))
+    unless (leb first_block (length s)) (Err packet_short)
+    (unless (eqb (get_or s 0 0 / 64) 2) (Err version)
+    (unless (eqb (get_or s 1 0) 207) (Err packet_type)
+    (unless (size_fits extent (size_in s) (length s)) (Err packet_length)
+    (unless (eqb (get_or s 0 0 / 32 % 2) 0) (Err padding)
+    (Ok (record { sender = be32 s 4; size = size_in s }))))))
 
 pub data Packet : Type 0 where
   good : ℕ → List Entry → Packet
@@ -44,9 +41,9 @@ abbrev pub of_frames : ℕ → Frames → Packet
 of_frames sender (whole es) = good sender es
 of_frames sender (past offset) = bad (block_past_end offset)
 
-abbrev pub framed : Header → List ℕ → Packet
-framed (Refused r) s = bad r
-framed (Sender sender size) s = of_frames sender (frames_in s first_block size)
+abbrev pub framed : Result Header Refusal → List ℕ → Packet
+framed (Err r) s = bad r
+framed (Ok header) s = of_frames header.sender (frames_in s first_block header.size)
 
 -- the packet that is s, or that stands at the front of s
 unfoldable pub packet_in : Extent → List ℕ → Packet
@@ -59,29 +56,33 @@ abbrev pub front_packet : List ℕ → Packet
 front_packet s = packet_in Front s
 
 -- block number k of a list, or none
-pub data Numbered : Type 0 where
-  none : Numbered
-  one : Entry → Numbered
-
-unfoldable pub numbered : List Entry → ℕ → Numbered
-numbered [] k = none
-numbered (e ∷ es) zero = one e
+unfoldable pub numbered : List Entry → ℕ → Option Entry
+numbered [] k = None
+numbered (e ∷ es) zero = Some e
 numbered (e ∷ es) (suc k) = numbered es k
 
--- its place, 0 where there is none
-abbrev pub place_in : Numbered → ℕ
-place_in none = 0
-place_in (one e) = e.place
+-- its place, none where there is no such block
+abbrev pub place_or_none : Option Entry → Option ℕ
+place_or_none None = None
+place_or_none (Some e) = Some e.place
+
+abbrev pub place_at : List Entry → ℕ → Option ℕ
+place_at es k = place_or_none (numbered es k)
+
+-- the same as a number, 0 where there is no such block
+abbrev pub place_in : Option Entry → ℕ
+place_in None = 0
+place_in (Some e) = e.place
 
 abbrev pub place_of : List Entry → ℕ → ℕ
 place_of es k = place_in (numbered es k)
 
 -- what a walk over all blocks finds: how many there are and the place of block k, or the block that runs past
-abbrev pub walked_of : Frames → ℕ → Walked
-walked_of (whole es) k = Blocks (length es) (place_of es k)
-walked_of (past offset) k = Past offset
+abbrev pub walked_of : Frames → ℕ → Result Walked ℕ
+walked_of (whole es) k = Ok (record { count = length es; at = place_at es k })
+walked_of (past offset) k = Err offset
 
 -- a packet judged, and block k located in it: the sender, the number of blocks and the place of block k
-abbrev pub located_of : Packet → ℕ → Located
-located_of (good sender es) k = Good sender (length es) (place_of es k)
-located_of (bad r) k = Located-as-Refused r
+abbrev pub located_of : Packet → ℕ → Result Located Refusal
+located_of (good sender es) k = Ok (record { sender = sender; count = length es; at = place_at es k })
+located_of (bad r) k = Err r

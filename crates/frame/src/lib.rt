@@ -18,6 +18,8 @@
 ghost use Rattle.std.specs.Prelude.{◌≡◌, ◌+◌, ◌<◌, min, length};
 ghost use Rattle.frame.specs.Frames.{next_at, block_at, start_at, frames_in};
 ghost use Rattle.frame.specs.Packet.{size_fits, header_of, packet_in, walked_of, located_of};
+ghost use Rattle.frame.specs.Parts.{parts_in, parts_left};
+ghost use Rattle.std.specs.Iterator.{YieldsFirstRef, item_count};
 
 use refusal::Refusal;
 
@@ -25,93 +27,97 @@ use refusal::Refusal;
 pub const FIRST_BLOCK: usize = 8;
 
 // What a slice holds: one packet and nothing else, or a packet at its front.
-#[derive(Clone, Copy)]
+#[derive(Clone, Copy, Debug, PartialEq, Eq)]
 pub enum Extent {
     Whole,
     Front,
 }
 
-// A packet judged as a whole: its sender, the number of its blocks and the place of the one asked for, 0 where there is
-// none.
-#[derive(Clone, Copy)]
-pub enum Located {
-    Good(u32, usize, usize),
-    Refused(Refusal),
+// What the first eight bytes say: who sent the packet and its size in bytes.
+#[derive(Clone, Copy, Debug, PartialEq, Eq)]
+pub struct Header {
+    pub sender: u32,
+    pub size: usize,
 }
 
-// What a walk finds: the number of blocks and the place of the one asked for, 0 where there is none; or the place of a
-// block that runs past the end.
-#[derive(Clone, Copy)]
-pub enum Walked {
-    Blocks(usize, usize),
-    Past(usize),
+// A packet judged as a whole: its sender, the number of its blocks and the place of the one asked for, none where the
+// packet has no block of that index.
+#[derive(Clone, Copy, Debug, PartialEq, Eq)]
+pub struct Located {
+    pub sender: u32,
+    pub count: usize,
+    pub at: Option<usize>,
 }
 
-// What the first eight bytes say: who sent the packet and its size in bytes, or why it is refused.
-#[derive(Clone, Copy)]
-pub enum Header {
-    Sender(u32, usize),
-    Refused(Refusal),
+// What a walk over whole blocks finds: how many there are and the place of the one asked for, none where there is none.
+#[derive(Clone, Copy, Debug, PartialEq, Eq)]
+pub struct Walked {
+    pub count: usize,
+    pub at: Option<usize>,
 }
 
 // The packet judged, with the place of block number index.
-pub fn locate(s: &[u8], extent: Extent, index: usize) -> Located
+pub fn locate(s: &[u8], extent: Extent, index: usize) -> Result<Located, Refusal>
     ensures { result ≡ located_of (packet_in extent s.now) index }
 {
-    match read_header(s, extent) {
-        Header::Sender(sender, size) => match walk(s, FIRST_BLOCK, size, index) {
-            Walked::Blocks(count, at) => Located::Good(sender, count, at),
-            Walked::Past(at) => Located::Refused(refusal::block_past_end(at)),
-        },
-        Header::Refused(r) => Located::Refused(r),
-    }
+    let header = read_header(s, extent)?;
+    let walked = walk(s, FIRST_BLOCK, header.size, index).map_err(Refusal::BlockPastEnd)?;
+    Ok(Located {
+        sender: header.sender,
+        count: walked.count,
+        at: walked.at,
+    })
 }
 
 // The first eight bytes of a packet, judged against the slice's length.
-pub fn read_header(s: &[u8], extent: Extent) -> Header
+pub fn read_header(s: &[u8], extent: Extent) -> Result<Header, Refusal>
     ensures { result ≡ header_of extent s.now }
 {
     if s.len() < FIRST_BLOCK {
-        return Header::Refused(refusal::PACKET_SHORT);
+        return Err(Refusal::PacketShort);
     }
     let first = s[0];
     if first / 64 != 2 {
-        return Header::Refused(refusal::VERSION);
+        return Err(Refusal::Version);
     }
     if s[1] != 207 {
-        return Header::Refused(refusal::PACKET_TYPE);
+        return Err(Refusal::PacketType);
     }
     let size = 4 * (wire::u16_at(s, 2) as usize + 1);
     if !size_fits(extent, size, s.len()) {
-        return Header::Refused(refusal::PACKET_LENGTH);
+        return Err(Refusal::PacketLength);
     }
     if first / 32 % 2 != 0 {
-        return Header::Refused(refusal::PADDING);
+        return Err(Refusal::Padding);
     }
-    Header::Sender(wire::u32_at(s, 4), size)
+    Ok(Header {
+        sender: wire::u32_at(s, 4),
+        size,
+    })
 }
 
 // All blocks from one offset to another, or to the end of s where that is nearer, in one pass: how many, and
-// where number index stands.
-pub fn walk(s: &[u8], from: usize, to: usize, index: usize) -> Walked
+// where number index stands; or the place of a block that runs past the end.
+pub fn walk(s: &[u8], from: usize, to: usize, index: usize) -> Result<Walked, usize>
     ensures { result ≡ walked_of (frames_in s.now from (min to (length s.now))) index }
 {
-    let end = nearer(to, s.len());
+    let end = to.min(s.len());
     let mut at = from;
     let mut count = 0;
-    let mut found = 0;
+    let mut found = None;
+    // By offsets, and not by `blocks_from`: the answer is an offset, also where a block does not end in time.
     while at < end {
         let next = next_block(s, at);
         if end < next {
-            return Walked::Past(at);
+            return Err(at);
         }
         if count == index {
-            found = at;
+            found = Some(at);
         }
         at = next;
         count += 1;
     }
-    Walked::Blocks(count, found)
+    Ok(Walked { count, at: found })
 }
 
 // The block at offset at, its first word and its body, as the very part of s; empty where no whole block stands
@@ -130,6 +136,41 @@ pub fn block_at(s: &[u8], at: usize) -> &[u8]
     &s[at..next]
 }
 
+// A walk over the blocks of a packet, one behind the other. It ends where the bytes end, or where a block runs past them.
+#[derive(Clone, Copy)]
+pub struct BlockWalk<'a> {
+    packet: &'a [u8],
+    at: usize,
+}
+
+// The walk that begins at an offset.
+pub fn blocks_from(s: &[u8], from: usize) -> BlockWalk<'_>
+    ensures { parts_left result ≡ parts_in s.now from }
+{
+    BlockWalk {
+        packet: s,
+        at: from,
+    }
+}
+
+// Each block as block_at has it.
+impl<'a> Iterator for BlockWalk<'a> {
+    type Item = &'a [u8];
+
+    ghost next_gives = { YieldsFirstRef parts_left };
+
+    ghost remaining = { item_count parts_left };
+
+    fn next(&mut self) -> Option<&'a [u8]> {
+        let bytes = block_at(self.packet, self.at);
+        if bytes.is_empty() {
+            return None;
+        }
+        self.at += bytes.len();
+        Some(bytes)
+    }
+}
+
 // Whether a packet of this size is what a slice of this length holds.
 fn size_fits(extent: Extent, size: usize, room: usize) -> bool
     ensures { result ≡ size_fits extent size room }
@@ -146,13 +187,4 @@ fn next_block(s: &[u8], at: usize) -> usize
     ensures { result ≡ next_at s.now at }
 {
     at + 4 + 4 * wire::u16_at(s, at + 2) as usize
-}
-
-fn nearer(a: usize, b: usize) -> usize
-    ensures { result ≡ min a b }
-{
-    if b < a {
-        return b;
-    }
-    a
 }

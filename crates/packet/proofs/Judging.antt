@@ -7,67 +7,63 @@ use mathlib.Core.Logic.{◌⊎◌, inl, inr}
 use mathlib.Core.List.{List, [], ◌∷◌}
 use native.Mathlib.Omega.{arith}
 use Rattle.refusal.specs.Answer.{unless}
-use Rattle.block.specs.Types.{unmeasured}
 use Rattle.block.specs.Reading.{needs_of}
 use Rattle.block.proofs.Reasons.{own_reasons}
 use Rattle.block.specs.declared.Block.{Block}
 use Rattle.block.specs.declared.BlockRead.{BlockRead}
 use Rattle.block.specs.declared.BlockRead.TheVariants.{Typed, Rle, Unknown, Dropped}
-use Rattle.block.specs.declared.Needs.{Needs}
-use Rattle.block.specs.declared.Needs.TheVariants.{Nothing, MeasurementOf}
 use Rattle.frame.specs.Frames.{Entry}
 use Rattle.packet.specs.Blocks.{read_alone, measures, measured, given, read_among, read_in}
 use Rattle.packet.specs.Laws.{OwnButUnmeasured, Unmeasured, UnmeasuredExactly, MeasuredAnywhere}
+use Rattle.std.specs.Prelude.{Option, Some, None}
+use Rattle.block.specs.declared.Reason.TheVariants.{Unmeasured as Reason-as-Unmeasured}
 
 -- the cases of `read_among`
 module _ (es : List Entry) (own : BlockRead) where
-  pub has_measurement : (b : Block) (source : ℕ) → own ≡ Typed b → needs_of b ≡ MeasurementOf source → measured source es ≡ true → Typed b ≡ read_among es own
+  pub has_measurement : (b : Block) (source : ℕ) → own ≡ Typed b → needs_of b ≡ Some source → measured source es ≡ true → Typed b ≡ read_among es own
   has_measurement b source o n m = rw (o, n, m)
 
-  pub lacks_measurement : (b : Block) (source : ℕ) → own ≡ Typed b → needs_of b ≡ MeasurementOf source → measured source es ≡ false → Dropped unmeasured ≡ read_among es own
+  pub lacks_measurement : (b : Block) (source : ℕ) → own ≡ Typed b → needs_of b ≡ Some source → measured source es ≡ false → Dropped Reason-as-Unmeasured ≡ read_among es own
   lacks_measurement b source o n m = rw (o, n, m)
 
-  pub needs_nothing : (b : Block) → own ≡ Typed b → needs_of b ≡ Nothing → Typed b ≡ read_among es own
-  needs_nothing b o n = rw (o, n)
-
 -- In a packet a block reads as by itself, but for D4.
-by_needs : (es : List Entry) (own : BlockRead) → (read_among es own ≡ own) ⊎ (read_among es own ≡ Dropped unmeasured)
+by_needs : (es : List Entry) (own : BlockRead) → (read_among es own ≡ own) ⊎ (read_among es own ≡ Dropped Reason-as-Unmeasured)
 by_needs es (Rle r) = inl refl
 by_needs es Unknown = inl refl
 by_needs es (Dropped reason) = inl refl
 by_needs es (Typed b) = go (needs_of b)
   where
-    either : (m : Bool) → (unless m (Dropped unmeasured) (Typed b) ≡ Typed b) ⊎ (unless m (Dropped unmeasured) (Typed b) ≡ Dropped unmeasured)
+    either : (m : Bool) → (unless m (Dropped Reason-as-Unmeasured) (Typed b) ≡ Typed b) ⊎ (unless m (Dropped Reason-as-Unmeasured) (Typed b) ≡ Dropped Reason-as-Unmeasured)
     either true = inl refl
     either false = inr refl
 
-    go : (needs : Needs) → (given es needs (Typed b) ≡ Typed b) ⊎ (given es needs (Typed b) ≡ Dropped unmeasured)
-    go Nothing = inl refl
-    go (MeasurementOf source) = either (measured source es)
+    go : (needs : Option ℕ) → (given es needs (Typed b) ≡ Typed b) ⊎ (given es needs (Typed b) ≡ Dropped Reason-as-Unmeasured)
+    go None = inl refl
+    go (Some source) = either (measured source es)
 
 pub own_but_unmeasured : OwnButUnmeasured
 own_but_unmeasured es e = by_needs es (read_alone e)
 
 -- D4 exactly where a typed block needs a measurement of its source that stands nowhere in the packet.
-unmeasured_only : (es : List Entry) (e : Entry) → read_in es e ≡ Dropped unmeasured → Unmeasured es e
+unmeasured_only : (es : List Entry) (e : Entry) → read_in es e ≡ Dropped Reason-as-Unmeasured → Unmeasured es e
 unfolding read_alone
 unmeasured_only es e dropped = go (read_alone e) refl dropped
   where
-    by_place : (b : Block) (source : ℕ) (m : Bool) → read_alone e ≡ Typed b → needs_of b ≡ MeasurementOf source → measured source es ≡ m →
-        unless m (Dropped unmeasured) (Typed b) ≡ Dropped unmeasured → Unmeasured es e
+    by_place : (b : Block) (source : ℕ) (m : Bool) → read_alone e ≡ Typed b → needs_of b ≡ Some source → measured source es ≡ m →
+        unless m (Dropped Reason-as-Unmeasured) (Typed b) ≡ Dropped Reason-as-Unmeasured → Unmeasured es e
     by_place b source true t n m h = let z : ◌≡◌ {A = ℕ} 0 1 = cc in absurd (omega arith)
     by_place b source false t n m h = record { block = b; source = source; typed = t; needs = n; nowhere = m }
 
-    by_need : (b : Block) (needs : Needs) → read_alone e ≡ Typed b → needs_of b ≡ needs →
-        given es needs (Typed b) ≡ Dropped unmeasured → Unmeasured es e
-    by_need b Nothing t n h = let z : ◌≡◌ {A = ℕ} 0 1 = cc in absurd (omega arith)
-    by_need b (MeasurementOf source) t n h = by_place b source (measured source es) t n refl h
+    by_need : (b : Block) (needs : Option ℕ) → read_alone e ≡ Typed b → needs_of b ≡ needs →
+        given es needs (Typed b) ≡ Dropped Reason-as-Unmeasured → Unmeasured es e
+    by_need b None t n h = let z : ◌≡◌ {A = ℕ} 0 1 = cc in absurd (omega arith)
+    by_need b (Some source) t n h = by_place b source (measured source es) t n refl h
 
-    go : (own : BlockRead) → read_alone e ≡ own → read_among es own ≡ Dropped unmeasured → Unmeasured es e
+    go : (own : BlockRead) → read_alone e ≡ own → read_among es own ≡ Dropped Reason-as-Unmeasured → Unmeasured es e
     go (Typed b) t h = by_need b (needs_of b) t refl h
     go (Rle r) t h = let z : ◌≡◌ {A = ℕ} 0 1 = cc in absurd (omega arith)
     go Unknown t h = let z : ◌≡◌ {A = ℕ} 0 1 = cc in absurd (omega arith)
-    go (Dropped reason) t h = absurd ((own_reasons e.kind e.specific e.body unmeasured (t ∙ h)).2 refl)
+    go (Dropped reason) t h = absurd ((own_reasons e.kind e.specific e.body Reason-as-Unmeasured (t ∙ h)).2 refl)
 
 pub unmeasured_exactly : UnmeasuredExactly
 unmeasured_exactly es e =

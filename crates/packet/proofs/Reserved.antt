@@ -9,19 +9,17 @@ use Rattle.wire.specs.BigEndian.{be16, be32}
 use Rattle.block.specs.Reading.{needs_of}
 use Rattle.block.specs.declared.BlockRead.{BlockRead}
 use Rattle.block.specs.declared.BlockRead.TheVariants.{Typed, Rle, Unknown, Dropped}
-use Rattle.block.specs.declared.Needs.{Needs}
-use Rattle.block.specs.declared.Needs.TheVariants.{Nothing, MeasurementOf}
 use Rattle.block.proofs.Reserved.{read_cleared, cleared_size}
 use Rattle.frame.specs.declared.Extent.TheVariants.{Whole as Extent-as-Whole}
 use Rattle.frame.specs.Frames.{Entry, next_at, entry_at, first_block}
-use Rattle.frame.specs.Packet.{Packet, good, bad, Numbered, none, one, numbered, place_of, size_in}
+use Rattle.frame.specs.Packet.{Packet, good, bad, numbered, place_of, size_in}
 use Rattle.frame.specs.Laws.{Fill, IsPacket}
 use Rattle.frame.proofs.FirstBytes.{Head, head_facts, head_good}
 use Rattle.frame.proofs.Filling.{packet_exactly}
 use Rattle.packet.specs.Blocks.{read_alone, measured, given, read_among, read_in}
-use Rattle.packet.specs.declared.PacketHead.TheVariants.{Sent}
-use Rattle.packet.specs.Answers.{head_of, found, block_of, body_in, start_in, part_of}
+use Rattle.packet.specs.Answers.{sent, head_of, found, block_of, body_in, start_in, part_of}
 use Rattle.packet.specs.Reserved.{cleared, cleared_all, cleared_packet, Same, ReservedInPacket, ReservedBytes}
+use Rattle.std.specs.Prelude.{Option, Some, None}
 
 -- clearing changes no block by itself, none among others, and no place or size
 pub clear_alone : (e : Entry) → read_alone (cleared e) ≡ read_alone e
@@ -36,9 +34,9 @@ clear_measured source (e ∷ es) = rw (clear_alone e, clear_measured source es)
 pub clear_read : (es : List Entry) (e : Entry) → read_in (cleared_all es) (cleared e) ≡ read_in es e
 clear_read es e = rw (clear_alone e) (go (read_alone e))
   where
-    by_need : (needs : Needs) (answer : BlockRead) → given (cleared_all es) needs answer ≡ given es needs answer
-    by_need Nothing answer = refl
-    by_need (MeasurementOf source) answer = rw (clear_measured source es)
+    by_need : (needs : Option ℕ) (answer : BlockRead) → given (cleared_all es) needs answer ≡ given es needs answer
+    by_need None answer = refl
+    by_need (Some source) answer = rw (clear_measured source es)
 
     go : (own : BlockRead) → read_among (cleared_all es) own ≡ read_among es own
     go (Typed b) = by_need (needs_of b) (Typed b)
@@ -51,9 +49,9 @@ unfolding cleared_all
 clear_length [] = refl
 clear_length (e ∷ es) = ap suc (clear_length es)
 
-abbrev cleared_one : Numbered → Numbered
-cleared_one none = none
-cleared_one (one e) = one (cleared e)
+abbrev cleared_one : Option Entry → Option Entry
+cleared_one None = None
+cleared_one (Some e) = Some (cleared e)
 
 clear_number : (es : List Entry) (k : ℕ) → numbered (cleared_all es) k ≡ cleared_one (numbered es k)
 unfolding numbered cleared_all
@@ -65,22 +63,22 @@ clear_same : (p : Packet) → Same (cleared_packet p) p
 clear_same (bad r) = record { head = refl; block = λ k. refl; part = λ k. refl }
 clear_same (good sender es) =
     record {
-      head = ap (Sent sender) (clear_length es);
+      head = ap (sent sender) (clear_length es);
       block = λ k. rw (clear_number es k) (block (numbered es k));
-      part = λ k. let n = clear_number es k in λ i. record { start = (ap start_in n ∙ start (numbered es k)) i; length = (ap (λ (x : Numbered). length (body_in x)) n ∙ size (numbered es k)) i };
+      part = λ k. let n = clear_number es k in λ i. record { start = (ap start_in n ∙ start (numbered es k)) i; length = (ap (λ (x : Option Entry). length (body_in x)) n ∙ size (numbered es k)) i };
     }
   where
-    block : (n : Numbered) → found (cleared_all es) (cleared_one n) ≡ found es n
-    block none = refl
-    block (one e) = rw (clear_read es e)
+    block : (n : Option Entry) → found (cleared_all es) (cleared_one n) ≡ found es n
+    block None = refl
+    block (Some e) = rw (clear_read es e)
 
-    start : (n : Numbered) → start_in (cleared_one n) ≡ start_in n
-    start none = refl
-    start (one e) = refl
+    start : (n : Option Entry) → start_in (cleared_one n) ≡ start_in n
+    start None = refl
+    start (Some e) = refl
 
-    size : (n : Numbered) → length (body_in (cleared_one n)) ≡ length (body_in n)
-    size none = refl
-    size (one e) = cleared_size e.kind e.body
+    size : (n : Option Entry) → length (body_in (cleared_one n)) ≡ length (body_in n)
+    size None = refl
+    size (Some e) = cleared_size e.kind e.body
 
 pub reserved_in_packet : ReservedInPacket
 reserved_in_packet p p' e =

@@ -1,47 +1,53 @@
 -- What the calls on a packet answer, from its sender and its list of blocks: document 01, "The packet", and
 -- the order line "packets 1, 2, 3, 4, 5, 6, then 7".
-use Rattle.std.specs.Prelude.{ℕ, ◌+◌, List, [], length}
+use Rattle.std.specs.Prelude.{ℕ, ◌+◌, List, [], length, Option, Some, None, Result, Ok, Err}
 use Rattle.refusal.specs.Table.{no_such_block}
+use Rattle.refusal.specs.declared.Refusal.{Refusal}
+use Rattle.block.specs.declared.BlockRead.{BlockRead}
 use Rattle.frame.specs.Frames.{Entry}
-use Rattle.frame.specs.Packet.{Packet, good, bad, Numbered, none, one, numbered}
+use Rattle.frame.specs.Packet.{Packet, good, bad, numbered}
 use Rattle.packet.specs.declared.PacketHead.{PacketHead}
-use Rattle.packet.specs.declared.PacketHead.TheVariants.{Sent, Refused as Head-as-Refused}
 use Rattle.packet.specs.declared.BlockAt.{BlockAt}
-use Rattle.packet.specs.declared.BlockAt.TheVariants.{Found, Refused}
 use Rattle.packet.specs.declared.Part.{Part}
 use Rattle.packet.specs.Blocks.{read_in}
 
 -- the sender and the number of blocks
-abbrev pub head_of : Packet → PacketHead
-head_of (good sender es) = Sent sender (length es)
-head_of (bad r) = Head-as-Refused r
+abbrev pub sent : ℕ → ℕ → Result PacketHead Refusal
+sent sender blocks = Ok (record { sender = sender; blocks = blocks })
+
+abbrev pub head_of : Packet → Result PacketHead Refusal
+head_of (good sender es) = sent sender (length es)
+head_of (bad r) = Err r
 
 -- block number k of the packet, or none
-abbrev pub chosen : Packet → ℕ → Numbered
+abbrev pub chosen : Packet → ℕ → Option Entry
 chosen (good sender es) k = numbered es k
-chosen (bad r) k = none
+chosen (bad r) k = None
 
 -- it read among all blocks of the packet: its type, and what it is
-abbrev pub found : List Entry → Numbered → BlockAt
-found es none = Refused no_such_block
-found es (one e) = Found e.kind (read_in es e)
+abbrev pub answered : ℕ → BlockRead → Result BlockAt Refusal
+answered kind read = Ok (record { kind = kind; read = read })
 
-abbrev pub block_of : Packet → ℕ → BlockAt
+abbrev pub found : List Entry → Option Entry → Result BlockAt Refusal
+found es None = Err no_such_block
+found es (Some e) = answered e.kind (read_in es e)
+
+abbrev pub block_of : Packet → ℕ → Result BlockAt Refusal
 block_of (good sender es) k = found es (numbered es k)
-block_of (bad r) k = Refused r
+block_of (bad r) k = Err r
 
 -- its body, empty where block k is refused
-abbrev pub body_in : Numbered → List ℕ
-body_in none = []
-body_in (one e) = e.body
+abbrev pub body_in : Option Entry → List ℕ
+body_in None = []
+body_in (Some e) = e.body
 
 abbrev pub body_of : Packet → ℕ → List ℕ
 body_of p k = body_in (chosen p k)
 
 -- where that begins: the block's place plus four, 0 where block k is refused
-abbrev pub start_in : Numbered → ℕ
-start_in none = 0
-start_in (one e) = e.place + 4
+abbrev pub start_in : Option Entry → ℕ
+start_in None = 0
+start_in (Some e) = e.place + 4
 
 abbrev pub body_start : Packet → ℕ → ℕ
 body_start p k = start_in (chosen p k)

@@ -1,34 +1,31 @@
 -- What callers may lean on, as statements about the definitions that the calls promise. Proved in proofs/.
-use Rattle.std.specs.Prelude.{ℕ, ◌+◌, ◌≤◌, ◌≡◌, true, false, ◌⊎◌, List, ◌∷◌, ◌++◌, length, take, drop}
+use Rattle.std.specs.Prelude.{ℕ, ◌+◌, ◌≤◌, ◌≡◌, true, false, ◌⊎◌, List, ◌∷◌, ◌++◌, length, take, drop, Some, Err}
 use Rattle.refusal.specs.Table.{no_such_block}
-use Rattle.block.specs.Types.{unmeasured}
 use Rattle.block.specs.Reading.{needs_of}
 use Rattle.block.specs.declared.Measurement.{Measurement}
 use Rattle.block.specs.declared.Block.{Block}
 use Rattle.block.specs.declared.Block.TheVariants.{Measured}
 use Rattle.block.specs.declared.BlockRead.TheVariants.{Typed, Dropped}
-use Rattle.block.specs.declared.Needs.TheVariants.{MeasurementOf}
 use Rattle.frame.specs.Frames.{Entry}
 use Rattle.frame.specs.Packet.{Packet, good, packet_of}
-use Rattle.packet.specs.declared.PacketHead.TheVariants.{Sent}
-use Rattle.packet.specs.declared.BlockAt.TheVariants.{Found, Refused}
 use Rattle.packet.specs.Blocks.{read_alone, measures, measured, read_in}
-use Rattle.packet.specs.Answers.{head_of, block_of, body_of, body_start}
+use Rattle.packet.specs.Answers.{sent, head_of, answered, block_of, body_of, body_start}
+use Rattle.block.specs.declared.Reason.TheVariants.{Unmeasured as Reason-as-Unmeasured}
 
 -- In a packet a block reads as by itself, but for D4.
 abbrev pub OwnButUnmeasured : Type 0
-OwnButUnmeasured = (es : List Entry) (e : Entry) → (read_in es e ≡ read_alone e) ⊎ (read_in es e ≡ Dropped unmeasured)
+OwnButUnmeasured = (es : List Entry) (e : Entry) → (read_in es e ≡ read_alone e) ⊎ (read_in es e ≡ Dropped Reason-as-Unmeasured)
 
 -- D4 exactly where a typed block needs a measurement of its source that stands nowhere in the packet.
 pub record Unmeasured (es : List Entry) (e : Entry) : Type 0 where
   pub block : Block
   pub source : ℕ
   pub typed : read_alone e ≡ Typed block
-  pub needs : needs_of block ≡ MeasurementOf source
+  pub needs : needs_of block ≡ Some source
   pub nowhere : measured source es ≡ false
 
 abbrev pub UnmeasuredExactly : Type 0
-UnmeasuredExactly = (es : List Entry) (e : Entry) → (read_in es e ≡ Dropped unmeasured → Unmeasured es e) × (Unmeasured es e → read_in es e ≡ Dropped unmeasured)
+UnmeasuredExactly = (es : List Entry) (e : Entry) → (read_in es e ≡ Dropped Reason-as-Unmeasured → Unmeasured es e) × (Unmeasured es e → read_in es e ≡ Dropped Reason-as-Unmeasured)
 
 -- "anywhere in the packet, before or after": one well-sized block 14 of a source is enough, wherever it stands.
 abbrev pub MeasuredAnywhere : Type 0
@@ -39,7 +36,7 @@ pub record MeasuredAt (p : Packet) (source : ℕ) : Type 0 where
   pub index : ℕ
   pub type : ℕ
   pub block : Measurement
-  pub is : block_of p index ≡ Found type (Typed (Measured block))
+  pub is : block_of p index ≡ answered type (Typed (Measured block))
   pub names : block.source ≡ source
 
 abbrev pub MeasuredExactly : Type 0
@@ -57,8 +54,8 @@ BodyIsPart = (s : List ℕ) (k : ℕ) → PartIs s k
 pub record Absent (s : List ℕ) (k : ℕ) : Type 0 where
   pub sender : ℕ
   pub count : ℕ
-  pub head : head_of (packet_of s) ≡ Sent sender count
+  pub head : head_of (packet_of s) ≡ sent sender count
   pub past : count ≤ k
 
 abbrev pub AbsentExactly : Type 0
-AbsentExactly = (s : List ℕ) (k : ℕ) → (block_of (packet_of s) k ≡ Refused no_such_block → Absent s k) × (Absent s k → block_of (packet_of s) k ≡ Refused no_such_block)
+AbsentExactly = (s : List ℕ) (k : ℕ) → (block_of (packet_of s) k ≡ Err no_such_block → Absent s k) × (Absent s k → block_of (packet_of s) k ≡ Err no_such_block)

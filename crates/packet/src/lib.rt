@@ -9,22 +9,22 @@ ghost use Rattle.packet.specs.Blocks.{names, measured, read_among};
 ghost use Rattle.packet.specs.Answers.{head_of, block_of, body_of, body_start, part_of};
 ghost use Rattle.packet.specs.Steps.{blocks_of, WholeBlocks};
 
-use block::{BlockRead, Measures, Needs};
+use block::{BlockRead, Reason};
 use frame::{Extent, Located};
 use refusal::Refusal;
 
-// What a packet says of itself: its sender and the number of its blocks, or why it is refused.
-#[derive(Clone, Copy)]
-pub enum PacketHead {
-    Sent(u32, usize),
-    Refused(Refusal),
+// What a packet says of itself: its sender and the number of its blocks.
+#[derive(Clone, Copy, Debug, PartialEq, Eq)]
+pub struct PacketHead {
+    pub sender: u32,
+    pub blocks: usize,
 }
 
-// What asking for a block answers: its type and what it is, or why not.
+// A block that was asked for: its type and what it is.
 #[derive(Clone, Copy)]
-pub enum BlockAt {
-    Found(u8, BlockRead),
-    Refused(Refusal),
+pub struct BlockAt {
+    pub kind: u8,
+    pub read: BlockRead,
 }
 
 // Where a part of a packet lies.
@@ -37,29 +37,27 @@ pub struct Part {
 }
 
 // The sender and the number of blocks.
-pub fn head(packet: &[u8]) -> PacketHead
+pub fn head(packet: &[u8]) -> Result<PacketHead, Refusal>
     ensures { result ≡ head_of (packet_of packet.now) }
 {
-    match frame::locate(packet, Extent::Whole, 0) {
-        Located::Good(sender, count, _) => PacketHead::Sent(sender, count),
-        Located::Refused(r) => PacketHead::Refused(r),
-    }
+    let located = frame::locate(packet, Extent::Whole, 0)?;
+    Ok(PacketHead {
+        sender: located.sender,
+        blocks: located.count,
+    })
 }
 
 // Block number index, from 0. Its body is handed to the reader of its type as a part of the packet.
-pub fn block(packet: &[u8], index: usize) -> BlockAt
+pub fn block(packet: &[u8], index: usize) -> Result<BlockAt, Refusal>
     ensures { result ≡ block_of (packet_of packet.now) index }
 {
-    match frame::locate(packet, Extent::Whole, index) {
-        Located::Good(_, count, at) => {
-            if index < count {
-                let bytes = frame::block_at(packet, at);
-                return BlockAt::Found(bytes[0], judge(packet, block::read_bytes(bytes)));
-            }
-            BlockAt::Refused(refusal::NO_SUCH_BLOCK)
-        }
-        Located::Refused(r) => BlockAt::Refused(r),
-    }
+    let located = frame::locate(packet, Extent::Whole, index)?;
+    let at = located.at.ok_or(Refusal::NoSuchBlock)?;
+    let bytes = frame::block_at(packet, at);
+    Ok(BlockAt {
+        kind: bytes[0],
+        read: judge(packet, block::read_bytes(bytes)),
+    })
 }
 
 // Where the body of block number index lies: the words after its first. 0 and 0 where asking for the block is
@@ -67,24 +65,16 @@ pub fn block(packet: &[u8], index: usize) -> BlockAt
 pub fn body_part(packet: &[u8], index: usize) -> Part
     ensures { result ≡ part_of (packet_of packet.now) index }
 {
-    match frame::locate(packet, Extent::Whole, index) {
-        Located::Good(_, count, at) => {
-            if index < count {
-                let bytes = frame::block_at(packet, at);
-                return Part {
-                    start: at + 4,
-                    length: bytes.len() - 4,
-                };
-            }
-            Part {
-                start: 0,
-                length: 0,
-            }
-        }
-        Located::Refused(_) => Part {
+    let Ok(Located { at: Some(at), .. }) = frame::locate(packet, Extent::Whole, index) else {
+        return Part {
             start: 0,
             length: 0,
-        },
+        };
+    };
+    let bytes = frame::block_at(packet, at);
+    Part {
+        start: at + 4,
+        length: bytes.len() - 4,
     }
 }
 
@@ -104,20 +94,13 @@ fn judge(s: &[u8], own: BlockRead) -> BlockRead
     requires { WholeBlocks s.now }
     ensures { result ≡ read_among (blocks_of s.now) own }
 {
-    match own {
-        BlockRead::Typed(b) => match block::needed_by(b) {
-            Needs::MeasurementOf(source) => {
-                if has_measurement(s, source) {
-                    return own;
-                }
-                BlockRead::Dropped(block::UNMEASURED)
-            }
-            Needs::Nothing => own,
-        },
-        BlockRead::Rle(_) => own,
-        BlockRead::Unknown => own,
-        BlockRead::Dropped(_) => own,
+    if let BlockRead::Typed(b) = own
+        && let Some(source) = block::needed_by(b)
+        && !has_measurement(s, source)
+    {
+        return BlockRead::Dropped(Reason::Unmeasured);
     }
+    own
 }
 
 // Whether a well-sized measurement block for this source stands anywhere in the packet.
@@ -125,23 +108,12 @@ fn has_measurement(s: &[u8], source: u32) -> bool
     requires { WholeBlocks s.now }
     ensures { result ≡ measured source (blocks_of s.now) }
 {
-    let mut at = frame::FIRST_BLOCK;
-    while at < s.len() {
-        let bytes = frame::block_at(s, at);
-        if measures(bytes, source) {
-            return true;
-        }
-        at += bytes.len();
-    }
-    false
+    frame::blocks_from(s, frame::FIRST_BLOCK).any(|bytes| measures(bytes, source))
 }
 
 // Whether these are the bytes of a well-sized measurement block for this source.
 fn measures(bytes: &[u8], source: u32) -> bool
     ensures { result ≡ names (measures_of (read_bytes bytes.now)) source }
 {
-    match block::measured_by(bytes) {
-        Measures::Source(measured) => measured == source,
-        Measures::Nothing => false,
-    }
+    block::measured_by(bytes).is_some_and(|measured| measured == source)
 }

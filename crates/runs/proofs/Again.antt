@@ -1,10 +1,9 @@
 -- A trace that was added, read again: `AddedRead` of specs/Laws.antt; and `TraceOfBlock`. Assumes nothing.
 use Rattle.std.proofs.Common.{◌≡◌, ℕ, ◌/◌, ◌%◌, ◌<◌, ◌≤◌, true, false, ◌⊎◌, List, [], ◌∷◌, ◌++◌, length, drop, sym, ap, ◌∙◌, subst, inl, inr, arith, le-leb}
-use Rattle.refusal.specs.declared.Written.TheVariants.{Size}
 use Rattle.trace.specs.Laws.{IsWithin}
 use Rattle.trace.specs.Trace.{lost}
 use Rattle.trace.proofs.Judging.{accepted_within}
-use Rattle.block.specs.Types.{rle_type, interval_max, unmeasured}
+use Rattle.block.specs.Types.{rle_type, interval_max}
 use Rattle.block.specs.Layouts.{covered, trace_of}
 use Rattle.block.specs.Reading.{read_block, read_bytes}
 use Rattle.block.specs.Laws.{RleTrace}
@@ -14,12 +13,11 @@ use Rattle.block.proofs.RleLaws.{rle_read, rle_trace}
 use Rattle.encode.specs.Words.{in_bytes}
 use Rattle.encode.proofs.Framing.{framed_words}
 use Rattle.frame.specs.Frames.{Entry}
-use Rattle.frame.specs.Packet.{Packet, good, bad, Numbered, none, one, numbered, size_in, packet_of, front_packet}
+use Rattle.frame.specs.Packet.{Packet, good, bad, numbered, size_in, packet_of, front_packet}
 use Rattle.frame.proofs.Numbering.{number_last}
 use Rattle.packet.specs.Blocks.{read_alone, measures, read_in}
-use Rattle.packet.specs.Answers.{found, block_of, body_in, body_of, part_of}
+use Rattle.packet.specs.Answers.{answered, found, block_of, body_in, body_of, part_of}
 use Rattle.packet.specs.declared.BlockAt.{BlockAt}
-use Rattle.packet.specs.declared.BlockAt.TheVariants.{Found}
 use Rattle.packet.proofs.Judging.{own_but_unmeasured}
 use Rattle.compose.specs.Laws.{entry_of, Append, Appended, Lifted, Kept}
 use Rattle.compose.proofs.Adding.{fit}
@@ -30,23 +28,32 @@ use Rattle.runs.specs.Answers.{trace_found, trace_answer}
 use Rattle.runs.specs.Laws.{after_add, rle_of, Add, ReadBack, AddedRead, TraceOfBlock}
 use Rattle.runs.proofs.ReadBack.{trace_is, read_body}
 use Rattle.runs.proofs.Storing.{rle_long}
+use Rattle.std.specs.Prelude.{Option, Some, None, Result, Ok}
+use Rattle.refusal.specs.declared.Refusal.{Refusal}
+use Rattle.block.specs.declared.Reason.TheVariants.{Unmeasured}
 
 pub trace_of_block : TraceOfBlock
 unfolding read_alone
 trace_of_block s k type r h = go (packet_of s) h
   where
-    of_entry : (es : List Entry) (e : Entry) → Found e.kind (read_in es e) ≡ Found type (Rle r) → RleTrace e.body r
+    of_entry : (es : List Entry) (e : Entry) → answered e.kind (read_in es e) ≡ answered type (Rle r) → RleTrace e.body r
     of_entry es e told = by (own_but_unmeasured es e)
       where
-        by : (read_in es e ≡ read_alone e) ⊎ (read_in es e ≡ Dropped unmeasured) → RleTrace e.body r
-        by (inl same) = let is : read_in es e ≡ Rle r = cc in rle_trace e.kind e.specific e.body r (sym same ∙ is)
-        by (inr dropped) = let is : read_in es e ≡ Rle r = cc in let other : Dropped unmeasured ≡ Rle r = sym dropped ∙ is in let z : ◌≡◌ {A = ℕ} 0 1 = cc in absurd (omega arith)
+        same_block : ◌≡◌ {A = BlockAt} (record { kind = e.kind; read = read_in es e }) (record { kind = type; read = Rle r })
+        same_block = cc
 
-    in_list : (es : List Entry) (n : Numbered) → found es n ≡ Found type (Rle r) → RleTrace (body_in n) r
-    in_list es none told = let z : ◌≡◌ {A = ℕ} 0 1 = cc in absurd (omega arith)
-    in_list es (one e) told = of_entry es e told
+        is : read_in es e ≡ Rle r
+        is = ap (λ (x : BlockAt). x.read) same_block
 
-    go : (p : Packet) → block_of p k ≡ Found type (Rle r) → RleTrace (body_of p k) r
+        by : (read_in es e ≡ read_alone e) ⊎ (read_in es e ≡ Dropped Unmeasured) → RleTrace e.body r
+        by (inl same) = rle_trace e.kind e.specific e.body r (sym same ∙ is)
+        by (inr dropped) = let other : Dropped Unmeasured ≡ Rle r = sym dropped ∙ is in let z : ◌≡◌ {A = ℕ} 0 1 = cc in absurd (omega arith)
+
+    in_list : (es : List Entry) (n : Option Entry) → found es n ≡ answered type (Rle r) → RleTrace (body_in n) r
+    in_list es None told = let z : ◌≡◌ {A = ℕ} 0 1 = cc in absurd (omega arith)
+    in_list es (Some e) told = of_entry es e told
+
+    go : (p : Packet) → block_of p k ≡ answered type (Rle r) → RleTrace (body_of p k) r
     go (bad x) told = let z : ◌≡◌ {A = ℕ} 0 1 = cc in absurd (omega arith)
     go (good sender es) told = in_list es (numbered es k) told
 
@@ -83,7 +90,7 @@ module _ (out : List ℕ) (source begin : ℕ) (s : List ℕ) (sender : ℕ) (es
   abbrev all : List Entry
   all = es ++ new ∷ []
 
-  index : block_of (good sender all) (length es) ≡ Found rle_type (Rle (rle_of source begin s))
+  index : block_of (good sender all) (length es) ≡ answered rle_type (Rle (rle_of source begin s))
   index = rw (number_last es new, alone)
 
   body : body_of (good sender all) (length es) ≡ in_bytes (rle_body source begin s)
@@ -92,8 +99,8 @@ module _ (out : List ℕ) (source begin : ℕ) (s : List ℕ) (sender : ℕ) (es
   interval : covered begin (end_of begin s) ≡ length s
   interval = let most = accepted.most in let small = a.begin_fits in omega arith
 
-  room_for : (room : List ℕ) → length s ≤ length room → trace_answer (good sender all) (length es) room ≡ Size (length s)
-  room_for room h = ap (λ (x : BlockAt). trace_found x room) index ∙ rw (interval, le-leb (length s) (length room) h)
+  room_for : (room : List ℕ) → length s ≤ length room → trace_answer (good sender all) (length es) room ≡ Ok (length s)
+  room_for room h = ap (λ (x : Result BlockAt Refusal). trace_found x room) index ∙ rw (interval, le-leb (length s) (length room) h)
 
   unmeasuring : (x : ℕ) → measures x new ≡ true → ⊥
   unmeasuring x h = let none : false ≡ true = rw alone at h in let z : ◌≡◌ {A = ℕ} 0 1 = cc in omega arith

@@ -56,3 +56,7 @@ whole_is s i b room =
     let none = no_room (drop (i + 15) s) in
     let is = chunk_is (drop i s) (omega (arith, length-drop i s)) in
     omega arith
+
+pub whole_fours : (s : List ℕ) (i a b c d : ℕ) → Bits s → i + 15 ≤ length s → a ≡ four_from s i → b ≡ four_from s (i + 4) → c ≡ four_from s (i + 7) → d ≡ four_from s (i + 11) →
+    chunk_from (drop i s) + (a * 2048 + b / 2 * 256 + c * 16 + d) ≡ 65535
+whole_fours s i a b c d bits room p q r t = rw (p, q, r, t) (whole_is s i bits room)

@@ -5,8 +5,6 @@ use Rattle.refusal.proofs.Tests.{passed}
 use Rattle.refusal.specs.Table.{no_such_block, buffer_short}
 use Rattle.refusal.specs.Answer.{unless, after}
 use Rattle.refusal.specs.declared.Refusal.{Refusal}
-use Rattle.refusal.specs.declared.Written.{Written}
-use Rattle.refusal.specs.declared.Written.TheVariants.{Size, Refused}
 use Rattle.chunk.specs.Chunks.{packets_in, chunks_in}
 use Rattle.chunk.proofs.Covering.{trace_long}
 use Rattle.block.specs.Types.{rle_head}
@@ -15,8 +13,6 @@ use Rattle.block.specs.Reading.{needs_of, read_block, read_bytes}
 use Rattle.block.specs.declared.LossRle.{LossRle}
 use Rattle.block.specs.declared.BlockRead.{BlockRead}
 use Rattle.block.specs.declared.BlockRead.TheVariants.{Typed, Rle, Unknown, Dropped}
-use Rattle.block.specs.declared.Needs.{Needs}
-use Rattle.block.specs.declared.Needs.TheVariants.{Nothing, MeasurementOf}
 use Rattle.block.proofs.RleLaws.{rle_known, rle_facts}
 use Rattle.frame.specs.Frames.{Entry, block_at}
 use Rattle.frame.specs.Packet.{packet_of}
@@ -26,9 +22,11 @@ use Rattle.packet.specs.Blocks.{measured, given, read_among}
 use Rattle.packet.specs.Steps.{blocks_of}
 use Rattle.packet.specs.Answers.{block_of}
 use Rattle.packet.specs.declared.BlockAt.{BlockAt}
-use Rattle.packet.specs.declared.BlockAt.TheVariants.{Refused as Block-as-Refused}
 use Rattle.packet.proofs.Chosen.{located_answer, located_body}
 use Rattle.runs.specs.Answers.{trace_read, trace_found, trace_answer, trace_at}
+use Rattle.std.specs.Prelude.{Result, Ok, Err, Option, Some, None}
+use Rattle.block.specs.declared.Reason.TheVariants.{Unmeasured}
+use Rattle.refusal.specs.Answer.{Written}
 
 -- the answer, and the buffer afterwards
 abbrev pub Read : BlockRead → List ℕ → List ℕ → Written → List ℕ → Type 0
@@ -38,11 +36,11 @@ Read read trace out r out' = (r ≡ trace_read read out) × (out' ≡ after (tra
 pub among_same : (es : List Entry) (read : BlockRead) (out : List ℕ) → trace_read (read_among es read) out ≡ trace_read read out
 among_same es (Typed b) out = go (needs_of b)
   where
-    go : (n : Needs) → trace_read (given es n (Typed b)) out ≡ Refused no_such_block
-    go Nothing = refl
-    go (MeasurementOf source) = by (measured source es)
+    go : (n : Option ℕ) → trace_read (given es n (Typed b)) out ≡ Err no_such_block
+    go None = refl
+    go (Some source) = by (measured source es)
       where
-        by : (t : Bool) → trace_read (unless t (Dropped 4) (Typed b)) out ≡ Refused no_such_block
+        by : (t : Bool) → trace_read (unless t (Dropped Unmeasured) (Typed b)) out ≡ Err no_such_block
         by true = refl
         by false = refl
 among_same es (Rle r) out = refl
@@ -69,13 +67,13 @@ known bytes r h =
     }
 
 module _ (bytes out : List ℕ) (r : LossRle) (is : read_bytes bytes ≡ Rle r) where
-  pub no_room : length out < covered r.begin r.end → Read (read_bytes bytes) (trace_of (drop 4 bytes)) out (Refused buffer_short) out
+  pub no_room : length out < covered r.begin r.end → Read (read_bytes bytes) (trace_of (drop 4 bytes)) out (Err buffer_short) out
   no_room h = rw (is, lt-leb (covered r.begin r.end) (length out) h) (refl, refl)
 
   pub has_room : covered r.begin r.end ≤ length out → (n : ℕ) → n ≡ covered r.begin r.end → (chunks out' : List ℕ) (k : ℕ) →
       chunks ≡ take (length bytes - 12) (drop 12 bytes) →
       k ≡ length (take (min n (length out)) (packets_in (chunks_in chunks))) → out' ≡ take (min n (length out)) (packets_in (chunks_in chunks)) ++ drop k out →
-      Read (read_bytes bytes) (trace_of (drop 4 bytes)) out (Size n) out'
+      Read (read_bytes bytes) (trace_of (drop 4 bytes)) out (Ok n) out'
   has_room h n e chunks out' k part long now =
       let g = known bytes r is in
       let some = g.some in
@@ -86,27 +84,34 @@ module _ (bytes out : List ℕ) (r : LossRle) (is : read_bytes bytes ≡ Rle r) 
       let trace : take (min n (length out)) (packets_in (chunks_in chunks)) ≡ trace_of (drop 4 bytes) = ap₂ (λ (m : ℕ) (cs : List ℕ). take m (packets_in cs)) all same in
       let count : k ≡ covered r.begin r.end = long ∙ ap length trace ∙ g.long in
       rw (is, le-leb (covered r.begin r.end) (length out) h)
-      (ap Size e, now ∙ ap₂ (λ (l : List ℕ) (m : ℕ). l ++ drop m out) trace count)
+      (ap Ok e, now ∙ ap₂ (λ (l : List ℕ) (m : ℕ). l ++ drop m out) trace count)
 
 -- any other block
-pub no_trace : (bytes out : List ℕ) (read : BlockRead) → read_bytes bytes ≡ read → trace_read read out ≡ Refused no_such_block →
-    Read (read_bytes bytes) (trace_of (drop 4 bytes)) out (Refused no_such_block) out
+no_trace : (bytes out : List ℕ) (read : BlockRead) → read_bytes bytes ≡ read → trace_read read out ≡ Err no_such_block →
+    Read (read_bytes bytes) (trace_of (drop 4 bytes)) out (Err no_such_block) out
 no_trace bytes out read is none = rw (is, none) (refl, refl)
+
+pub no_rle : (bytes out : List ℕ) (read : BlockRead) → read ≡ read_bytes bytes → ((r : LossRle) → read ≡ Rle r → ⊥) →
+    Read (read_bytes bytes) (trace_of (drop 4 bytes)) out (Err no_such_block) out
+no_rle bytes out (Typed b) is other = no_trace bytes out (Typed b) (sym is) refl
+no_rle bytes out (Rle r) is other = absurd (other r refl)
+no_rle bytes out Unknown is other = no_trace bytes out Unknown (sym is) refl
+no_rle bytes out (Dropped reason) is other = no_trace bytes out (Dropped reason) (sym is) refl
 
 -- by index
 abbrev pub ReadAt : List ℕ → ℕ → List ℕ → Written → List ℕ → Type 0
 ReadAt s k out r out' = (r ≡ trace_answer (packet_of s) k out) × (out' ≡ after (trace_answer (packet_of s) k out) (trace_at (packet_of s) k) out)
 
-pub read_at : (s out : List ℕ) (k sender count at : ℕ) (o : Here Whole s k sender count at) (h : k < count) (bytes : List ℕ) → bytes ≡ block_at s at →
+pub read_at : (s out : List ℕ) (k sender count at : ℕ) (o : Here Whole s k sender count (Some at)) (bytes : List ℕ) → bytes ≡ block_at s at →
     (r : Written) (out' : List ℕ) → Read (read_bytes bytes) (trace_of (drop 4 bytes)) out r out' → ReadAt s k out r out'
-read_at s out k sender count at o h bytes b r out' told =
+read_at s out k sender count at o bytes b r out' told =
     let among : BlockRead = read_among (blocks_of s) (read_bytes bytes) in
-    let found = located_answer s k sender count at o h bytes b (read_bytes bytes) among refl refl in
+    let found = located_answer s k sender count at o bytes b (read_bytes bytes) among refl refl in
     let answer : trace_answer (packet_of s) k out ≡ trace_read (read_bytes bytes) out =
-    sym (ap (λ (x : BlockAt). trace_found x out) found) ∙ among_same (blocks_of s) (read_bytes bytes) out
+    sym (ap (λ (x : Result BlockAt Refusal). trace_found x out) found) ∙ among_same (blocks_of s) (read_bytes bytes) out
     in
-    let trace : trace_at (packet_of s) k ≡ trace_of (drop 4 bytes) = sym (ap trace_of (located_body s k sender count at o h bytes b)) in
+    let trace : trace_at (packet_of s) k ≡ trace_of (drop 4 bytes) = sym (ap trace_of (located_body s k sender count at o bytes b)) in
     (told.0 ∙ sym answer, told.1 ∙ sym (ap₂ (λ (w : Written) (l : List ℕ). after w l out) answer trace))
 
-pub refused_at : (s out : List ℕ) (k : ℕ) (r : Refusal) → block_of (packet_of s) k ≡ Block-as-Refused r → ReadAt s k out (Refused r) out
+pub refused_at : (s out : List ℕ) (k : ℕ) (r : Refusal) → block_of (packet_of s) k ≡ Err r → ReadAt s k out (Err r) out
 refused_at s out k r is = rw is (refl, refl)

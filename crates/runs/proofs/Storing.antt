@@ -2,9 +2,6 @@
 use Rattle.std.proofs.Common.{◌≡◌, ℕ, suc, ◌+◌, ◌-◌, ◌*◌, ◌/◌, ◌≤◌, List, ◌++◌, length, refl, ap, ◌∙◌, ap₂, arith}
 use Rattle.refusal.specs.Answer.{after}
 use Rattle.refusal.specs.declared.Refusal.{Refusal}
-use Rattle.refusal.specs.declared.Judged.{Judged}
-use Rattle.refusal.specs.declared.Written.{Written}
-use Rattle.refusal.specs.declared.Written.TheVariants.{Size, Refused}
 use Rattle.wire.specs.BigEndian.{bytes16, bytes32, placed}
 use Rattle.wire.proofs.Placed.{placed_more}
 use Rattle.encode.specs.Words.{halves, in_bytes}
@@ -13,6 +10,8 @@ use Rattle.compose.specs.Writing.{grown}
 use Rattle.compose.proofs.Adding.{Fit, written_words}
 use Rattle.runs.specs.Writing.{words_from, word_count, end_of, rle_words, add_answer}
 use Rattle.runs.proofs.ReadBack.{length_words}
+use Rattle.std.specs.Prelude.{Ok, Err}
+use Rattle.refusal.specs.Answer.{Judged, Written}
 
 -- three words, and what is behind them
 in_turn : (s : List ℕ) (at a b c : ℕ) (rest : List ℕ) → at + 12 + length rest ≤ length s →
@@ -44,12 +43,12 @@ abbrev pub Added : List ℕ → ℕ → ℕ → List ℕ → Written → List �
 Added out source begin s r out' = (r ≡ add_answer out source begin s) × (out' ≡ after (add_answer out source begin s) (grown out (rle_words source begin s)) out)
 
 module _ (out : List ℕ) (source begin : ℕ) (s : List ℕ) where
-  pub not_added : (r : Refusal) → add_answer out source begin s ≡ Refused r → Added out source begin s (Refused r) out
+  pub not_added : (r : Refusal) → add_answer out source begin s ≡ Err r → Added out source begin s (Err r) out
   not_added r e = rw e (refl, refl)
 
   pub added : (own : Judged) (count size : ℕ) (one two : List ℕ) → count ≡ length (rle_words source begin s) → Fit out own count size →
-      add_answer out source begin s ≡ Size size → one ≡ placed out (size - 4 * count) (in_bytes (rle_words source begin s)) → two ≡ placed one 2 (bytes16 (size / 4 - 1)) →
-      Added out source begin s (Size size) two
+      add_answer out source begin s ≡ Ok size → one ≡ placed out (size - 4 * count) (in_bytes (rle_words source begin s)) → two ≡ placed one 2 (bytes16 (size / 4 - 1)) →
+      Added out source begin s (Ok size) two
   added own count size one two c f e p q =
       let words : List ℕ = rle_words source begin s in
       rw e (refl, written_words out own words size one two (rw (← c) f) (p ∙ ap (λ (n : ℕ). placed out (size - 4 * n) (in_bytes words)) c) q)

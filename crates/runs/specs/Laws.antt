@@ -1,6 +1,5 @@
 -- What callers may lean on, as statements about the bytes that the calls promise: document 02, ticket 5. Proved in proofs/.
-use Rattle.std.specs.Prelude.{◌≡◌, ℕ, ◌+◌, ◌*◌, ◌/◌, ◌%◌, ◌<◌, ◌≤◌, ◌⊎◌, List, ◌++◌, length, take, drop, replicate, slice_index}
-use Rattle.refusal.specs.declared.Written.TheVariants.{Size}
+use Rattle.std.specs.Prelude.{◌≡◌, ℕ, ◌+◌, ◌*◌, ◌/◌, ◌%◌, ◌<◌, ◌≤◌, ◌⊎◌, List, ◌++◌, length, take, drop, replicate, slice_index, Ok}
 use Rattle.trace.specs.Trace.{lost}
 use Rattle.trace.specs.Laws.{IsWithin}
 use Rattle.chunk.specs.Chunks.{vector_bits, packets_of, lost_in}
@@ -14,8 +13,7 @@ use Rattle.encode.specs.Words.{in_bytes}
 use Rattle.encode.specs.Laws.{Half, Word}
 use Rattle.frame.specs.Frames.{Entry}
 use Rattle.frame.specs.Packet.{Packet, good, size_in, packet_of, front_packet}
-use Rattle.packet.specs.declared.BlockAt.TheVariants.{Found}
-use Rattle.packet.specs.Answers.{block_of, body_of, part_of}
+use Rattle.packet.specs.Answers.{block_of, body_of, part_of, answered}
 use Rattle.compose.specs.Laws.{after_append, Appended}
 use Rattle.runs.specs.Writing.{end_of, rle_body, rle_words, own_of, add_answer}
 use Rattle.runs.specs.Answers.{trace_answer, trace_at}
@@ -32,16 +30,16 @@ pub record Add (out : List ℕ) (source begin : ℕ) (s : List ℕ) (sender : �
   pub source_fits : Word source
   pub begin_fits : Half begin
   pub packet : front_packet out ≡ good sender es
-  pub answer : add_answer out source begin s ≡ Size n
+  pub answer : add_answer out source begin s ≡ Ok n
 
 -- "Reading back what was written gives the trace", by itself and by index; the packet stays good, and earlier blocks read as before.
 pub record ReadBack (p : Packet) (out now : List ℕ) (source begin : ℕ) (s : List ℕ) (sender : ℕ) (es : List Entry) (n : ℕ) : Type 0 where
   pub good_packet : Appended out now rle_type 0 (rle_body source begin s) sender es n
   pub by_itself : read_bytes (drop (size_in out) (take n now)) ≡ Rle (rle_of source begin s)
   pub own_trace : trace_of (drop 4 (drop (size_in out) (take n now))) ≡ s
-  pub by_index : block_of p (length es) ≡ Found rle_type (Rle (rle_of source begin s))
+  pub by_index : block_of p (length es) ≡ answered rle_type (Rle (rle_of source begin s))
   pub trace : trace_at p (length es) ≡ s
-  pub packets : (room : List ℕ) → length s ≤ length room → trace_answer p (length es) room ≡ Size (length s)
+  pub packets : (room : List ℕ) → length s ≤ length room → trace_answer p (length es) room ≡ Ok (length s)
   pub earlier : (k : ℕ) → k < length es → (block_of p k ≡ block_of (front_packet out) k) × (part_of p k ≡ part_of (front_packet out) k) × (body_of p k ≡ body_of (front_packet out) k)
 
 abbrev pub AddedRead : Type 0
@@ -52,7 +50,7 @@ AddedRead =
 -- Of a good type 1 of any packet the trace is as long as its interval, its packets are received or lost, and its lost are the
 -- number in the answer about the block.
 abbrev pub TraceOfBlock : Type 0
-TraceOfBlock = (s : List ℕ) (k type : ℕ) (r : LossRle) → block_of (packet_of s) k ≡ Found type (Rle r) → RleTrace (body_of (packet_of s) k) r
+TraceOfBlock = (s : List ℕ) (k type : ℕ) (r : LossRle) → block_of (packet_of s) k ≡ answered type (Rle r) → RleTrace (body_of (packet_of s) k) r
 
 -- "Our writer uses vector chunks alone, unused bits zero, and a null chunk where the count is odd.": chunk i is the vector of the
 -- fifteen packets from 15 i on, behind the last of them lost ones, which is what a zero is; and null where there are none.

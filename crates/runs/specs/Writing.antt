@@ -2,13 +2,12 @@
 -- where the count is odd." The order of the refusals is "the packet's own, then 10 for a trace empty or over 65,533, 9 with 2
 -- counted as bad, 17, 8".
 use Rattle.std.specs.Prelude.{ℕ, zero, suc, ◌+◌, ◌-◌, ◌*◌, ◌/◌, ◌%◌, ◌^◌, List, [], ◌∷◌, length, drop}
-use Rattle.refusal.specs.declared.Judged.{Judged}
-use Rattle.refusal.specs.declared.Written.{Written}
 use Rattle.trace.specs.Trace.{lost, judged_within}
 use Rattle.chunk.specs.Chunks.{vector_bits}
 use Rattle.block.specs.Types.{rle_type, interval_max}
 use Rattle.encode.specs.Words.{halves, block_words}
 use Rattle.compose.specs.Writing.{append_answer}
+use Rattle.refusal.specs.Answer.{Judged, Written}
 
 -- the first packets of a trace as bits, the first of them at the top: 1 for received, 0 for lost and for unused
 unfoldable pub bits_from : ℕ → List ℕ → ℕ

@@ -4,9 +4,8 @@ use mathlib.Core.Path.{◌≡◌, sym, ap, ap₂, ◌∙◌}
 use native.Mathlib.Omega.{arith}
 use lib.ListN.{length}
 use Rattle.wire.proofs.Numbers.{u16_inside, u32_inside}
-use Rattle.frame.specs.declared.Header.TheVariants.{Sender}
 use Rattle.frame.specs.Packet.{size_in, size_fits}
-use Rattle.frame.proofs.FirstBytes.{short, other_version, other_type, other_length, padded, sent}
+use Rattle.frame.proofs.FirstBytes.{read_as, short, other_version, other_type, other_length, padded, sent}
 use Rattle.frame.proofs.read_header.Goals as goal
 
 pub returns-then-s-lt-FIRST_BLOCK : goal.returns-then-s-lt-FIRST_BLOCK
@@ -35,5 +34,5 @@ returns c =
     let size : 4 * (c.u16_at.result + 1) ≡ size_in c.args.s.now = ap (λ (w : ℕ). 4 * (w + 1)) (c.u16_at.ensures ∙ u16_inside c.args.s.now 2 (omega arith)) in
     let fits : c.size_fits.result ≡ size_fits c.args.extent (size_in c.args.s.now) (length c.args.s.now) = c.size_fits.ensures ∙ ap (λ (n : ℕ). size_fits c.args.extent n (length c.args.s.now)) size in
     let s = c.args.s.now in
-    ap₂ Sender (c.u32_at.ensures ∙ u32_inside s 4 (omega arith)) size
+    ap₂ read_as (c.u32_at.ensures ∙ u32_inside s 4 (omega arith)) size
     ∙ sent _ s c.if-s-lt-FIRST_BLOCK.false c.if-first-ne2.false c.if-s.false (sym fits ∙ c.if-not-size_fits.false) c.if-first-ne0.false

@@ -1,21 +1,12 @@
 -- `frame::walk` meets its contract. The loop's invariant is `Walk`. Assumes nothing.
 use mathlib.Core.Logic.{inl, inr}
 use native.Mathlib.Omega.{arith}
-use Rattle.frame.proofs.Walking.{walk_start, walk_past, walk_on, walk_end}
+use Rattle.frame.proofs.Walking.{walk_past, walk_on, walk_end}
 use Rattle.frame.proofs.walk.Goals.{then-count-index, else-count-index}
 use Rattle.frame.proofs.walk.Goals as goal
 
-pub loop-at-init : goal.loop-at-init
-loop-at-init c = walk_start _ _ _ _
-
 pub returns-then-end-next : goal.returns-then-end-next
-returns-then-end-next c = rw (← c.nearer-end.ensures) (walk_past _ _ _ _ _ _ _ c.loop-at.invariant (omega arith) (omega (arith, c.next_block-next.ensures)))
-
-pub overflow_add-count : goal.overflow_add-count
-overflow_add-count c = omega (arith, c.loop-at.invariant.low)
-
-pub loop-at-smaller : goal.loop-at-smaller
-loop-at-smaller c = omega (arith, c.next_block-next.ensures)
+returns-then-end-next c = rw (← c.min-end.ensures) (walk_past _ _ _ _ _ _ _ c.loop-at.invariant (omega arith) (omega (arith, c.next_block-next.ensures)))
 
 pub loop-at-preserved : goal.loop-at-preserved
 loop-at-preserved c =
@@ -23,4 +14,4 @@ loop-at-preserved c =
     (elim c.if-count-index.branch [ then-count-index w ↦ inl (w.if-count-index.true, w.found-is) | else-count-index w ↦ inr (w.if-count-index.false, w.found-is) ])
 
 pub returns : goal.returns
-returns c = rw (← c.nearer-end.ensures) (walk_end _ _ _ _ _ _ _ c.loop-at.invariant (omega arith))
+returns c = rw (← c.min-end.ensures) (walk_end _ _ _ _ _ _ _ c.loop-at.invariant (omega arith))
