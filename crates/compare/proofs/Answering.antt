@@ -18,18 +18,17 @@ use Rattle.packet.specs.Blocks.{measured}
 use Rattle.packet.proofs.Chosen.{blocks_are}
 use Rattle.difference.specs.Numbers.{Adds}
 use Rattle.difference.proofs.Writing.{written_none, written_all}
-use Rattle.compare.specs.declared.Compared.{Compared}
-use Rattle.compare.specs.declared.Compared.TheVariants.{Differences, Refused}
 use Rattle.compare.specs.Answer.{differences_of, compare_answer, with_differences}
 use Rattle.sources.proofs.Judging.{BothGood}
 use Rattle.compare.specs.Steps.{Ready, Holds, Answers}
 use Rattle.compare.proofs.Room.{room_enough}
+use Rattle.std.specs.Prelude.{Result, Ok, Err}
 
 -- one packet refused, the first before the second
-pub first_refused : (s t out : List ℕ) (r : Refusal) → packet_of s ≡ bad r → Answers s t out out (Refused r)
+pub first_refused : (s t out : List ℕ) (r : Refusal) → packet_of s ≡ bad r → Answers s t out out (Err r)
 first_refused s t out r p = (rw p, rw p)
 
-pub second_refused : (s t out : List ℕ) (sender : ℕ) (es : List Entry) (r : Refusal) → packet_of s ≡ good sender es → packet_of t ≡ bad r → Answers s t out out (Refused r)
+pub second_refused : (s t out : List ℕ) (sender : ℕ) (es : List Entry) (r : Refusal) → packet_of s ≡ good sender es → packet_of t ≡ bad r → Answers s t out out (Err r)
 second_refused s t out sender es r p q = (rw (p, q), rw (p, q))
 
 module _ (s t table other : List ℕ) (r : Ready s t table other) (out : List ℕ) where
@@ -47,23 +46,23 @@ module _ (s t table other : List ℕ) (r : Ready s t table other) (out : List �
       go a b (yes l) = let most = room_enough s t (length t) l (omega arith) in omega arith
       go a b (no l) = let most = room_enough s t (length s) (omega arith) (omega arith) in omega arith
 
-  both_good : compare_answer (packet_of s) (packet_of t) out ≡ unless (leb (5 * all) (length out)) (Refused buffer_short) (Differences all)
+  both_good : compare_answer (packet_of s) (packet_of t) out ≡ unless (leb (5 * all) (length out)) (Err buffer_short) (Ok all)
   both_good = rw (r.packet, r.other_packet)
 
-  fits : 5 * all ≤ length out → compare_answer (packet_of s) (packet_of t) out ≡ Differences all
+  fits : 5 * all ≤ length out → compare_answer (packet_of s) (packet_of t) out ≡ Ok all
   fits h = both_good ∙ rw (le-leb (5 * all) (length out) h)
 
-  lacks : length out < 5 * all → compare_answer (packet_of s) (packet_of t) out ≡ Refused buffer_short
+  lacks : length out < 5 * all → compare_answer (packet_of s) (packet_of t) out ≡ Err buffer_short
   lacks h = both_good ∙ rw (lt-leb (5 * all) (length out) h)
 
-  abbrev after : Compared → List ℕ
+  abbrev after : Result ℕ Refusal → List ℕ
   after answer = with_differences answer (differences_of (packet_of s) (packet_of t)) out
 
-  pub listed : (out' : List ℕ) (n : ℕ) → 5 * all ≤ length out → Adds (differences_of (packet_of s) (packet_of t)) out out' 0 n → Answers s t out out' (Differences n)
+  pub listed : (out' : List ℕ) (n : ℕ) → 5 * all ≤ length out → Adds (differences_of (packet_of s) (packet_of t)) out out' 0 n → Answers s t out out' (Ok n)
   listed out' n h a =
       let count = a.count in
       let is : n ≡ all = omega arith in
-      (ap Differences is ∙ sym (fits h), a.list ∙ written_all (differences_of (packet_of s) (packet_of t)) out h ∙ sym (ap after (fits h)))
+      (ap Ok is ∙ sym (fits h), a.list ∙ written_all (differences_of (packet_of s) (packet_of t)) out h ∙ sym (ap after (fits h)))
 
   -- a list of no numbers only counts
   pub counted : (list : List ℕ) (n : ℕ) → Adds (differences_of (packet_of s) (packet_of t)) (take 0 out) list 0 n → (list ++ drop 0 out ≡ out) × (n ≡ all)
@@ -71,7 +70,7 @@ module _ (s t table other : List ℕ) (r : Ready s t table other) (out : List �
       let count = a.count in
       (ap (λ (l : List ℕ). l ++ drop 0 out) (a.list ∙ written_none 0 (differences_of (packet_of s) (packet_of t)) (take 0 out) (omega arith)), omega arith)
 
-  pub short : (n room : ℕ) → n ≡ all → room ≡ length out / 5 → room < n → Answers s t out out (Refused buffer_short)
+  pub short : (n room : ℕ) → n ≡ all → room ≡ length out / 5 → room < n → Answers s t out out (Err buffer_short)
   short n room e is h = let l = lacks (omega arith) in (sym l, sym (ap after l))
 
   pub room_for : (n room : ℕ) → n ≡ all → room ≡ length out / 5 → n ≤ room → 5 * all ≤ length out

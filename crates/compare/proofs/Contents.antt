@@ -8,18 +8,20 @@ use mathlib.Core.List.{List, [], ◌∷◌}
 use native.Mathlib.Omega.{arith}
 use lib.Dec.{eqb}
 use lib.ListN.{length, get_or}
-use Rattle.block.specs.Types.{measurement_type, loss_type, discard_type, effective_type, unmeasured}
+use Rattle.block.specs.Types.{measurement_type, loss_type, discard_type, effective_type}
 use Rattle.block.specs.Fields.{fields_of}
 use Rattle.block.specs.declared.Block.{Block}
 use Rattle.block.specs.declared.BlockRead.{BlockRead}
 use Rattle.block.specs.declared.BlockRead.TheVariants.{Typed, Rle, Unknown, Dropped}
 use Rattle.block.proofs.Cases.{typed_answers}
 use Rattle.frame.specs.Frames.{Entry}
-use Rattle.frame.specs.Packet.{one, numbered}
+use Rattle.std.specs.Prelude.{Some}
+use Rattle.frame.specs.Packet.{numbered}
 use Rattle.packet.specs.Blocks.{read_alone, read_in}
 use Rattle.packet.proofs.Judging.{own_but_unmeasured}
 use Rattle.compare.specs.Differences.{bytes, content_of, contents}
 use Rattle.compare.proofs.Nothing.{Sized, AllSized}
+use Rattle.block.specs.declared.Reason.TheVariants.{Unmeasured}
 
 pub contents_length : (all es : List Entry) → length (contents all es) ≡ length es
 unfolding contents
@@ -29,7 +31,7 @@ contents_length all (e ∷ es) = ap suc (contents_length all es)
 -- block k, by its number
 pub record Numbered (es : List Entry) (k : ℕ) : Type 0 where
   pub entry : Entry
-  pub is : numbered es k ≡ one entry
+  pub is : numbered es k ≡ Some entry
 
 pub has_number : (es : List Entry) (k : ℕ) → k < length es → Numbered es k
 unfolding numbered
@@ -37,13 +39,13 @@ has_number [] k l = absurd (omega arith)
 has_number (e ∷ es) zero l = record { entry = e; is = refl }
 has_number (e ∷ es) (suc k) l = let n = has_number es k (omega arith) in record { entry = n.entry; is = n.is }
 
-pub number_within : (es : List Entry) (k : ℕ) (e : Entry) → numbered es k ≡ one e → k < length es
+pub number_within : (es : List Entry) (k : ℕ) (e : Entry) → numbered es k ≡ Some e → k < length es
 unfolding numbered
 number_within [] k e h = let z : ◌≡◌ {A = ℕ} 0 1 = cc in absurd (omega arith)
 number_within (x ∷ es) zero e h = omega arith
 number_within (x ∷ es) (suc k) e h = let l = number_within es k e h in omega arith
 
-pub content_at_lem : (all es : List Entry) (k : ℕ) (e : Entry) → numbered es k ≡ one e → get_or (contents all es) k (bytes []) ≡ content_of e (read_in all e)
+pub content_at_lem : (all es : List Entry) (k : ℕ) (e : Entry) → numbered es k ≡ Some e → get_or (contents all es) k (bytes []) ≡ content_of e (read_in all e)
 unfolding contents numbered
 content_at_lem all [] k e h = let z : ◌≡◌ {A = ℕ} 0 1 = cc in absurd (omega arith)
 content_at_lem all (x ∷ es) zero e h = let s : x ≡ e = cc in rw s
@@ -53,7 +55,7 @@ content_at_lem all (x ∷ es) (suc k) e h = content_at_lem all es k e h
 pub typed_alone : (all : List Entry) (e : Entry) (b : Block) → read_in all e ≡ Typed b → read_alone e ≡ Typed b
 typed_alone all e b h = go (own_but_unmeasured all e)
   where
-    go : (read_in all e ≡ read_alone e) ⊎ (read_in all e ≡ Dropped unmeasured) → read_alone e ≡ Typed b
+    go : (read_in all e ≡ read_alone e) ⊎ (read_in all e ≡ Dropped Unmeasured) → read_alone e ≡ Typed b
     go (inl same) = sym same ∙ h
     go (inr dropped) = let z : ◌≡◌ {A = ℕ} 0 1 = cc in absurd (omega arith)
 

@@ -11,7 +11,9 @@ use Rattle.block.specs.declared.Block.{Block}
 use Rattle.block.specs.declared.BlockRead.{BlockRead}
 use Rattle.block.specs.declared.BlockRead.TheVariants.{Typed, Rle, Unknown, Dropped}
 use Rattle.frame.specs.Frames.{Entry}
-use Rattle.frame.specs.Packet.{good, bad, one, numbered}
+use Rattle.std.specs.Prelude.{Some}
+use Rattle.block.specs.declared.Reason.{Reason}
+use Rattle.frame.specs.Packet.{good, bad, numbered}
 use Rattle.packet.specs.Blocks.{read_in}
 use Rattle.packet.specs.Reserved.{cleared, cleared_all}
 use Rattle.packet.proofs.Reserved.{clear_read, clear_length}
@@ -41,7 +43,7 @@ alike xs ys x y = go (read_in xs x) (read_in ys y) refl refl
     not_unknown : (b : Block) → Unknown ≡ Typed b → ⊥
     not_unknown b e = let z : ◌≡◌ {A = ℕ} 0 1 = cc in omega arith
 
-    not_dropped : (reason : ℕ) (b : Block) → Dropped reason ≡ Typed b → ⊥
+    not_dropped : (reason : Reason) (b : Block) → Dropped reason ≡ Typed b → ⊥
     not_dropped reason b e = let z : ◌≡◌ {A = ℕ} 0 1 = cc in omega arith
 
     from_bytes : (r s : BlockRead) → read_in xs x ≡ r → read_in ys y ≡ s → ((b : Block) → r ≡ Typed b → ⊥) →
@@ -113,7 +115,7 @@ pub self_empty : SelfEmpty
 self_empty (good a xs) = rw (equal_none a a (senders a a) refl, blocks_self 0 (contents xs xs))
 self_empty (bad r) = refl
 
-cleared_number : (es : List Entry) (k : ℕ) (e : Entry) → numbered es k ≡ one e → numbered (cleared_all es) k ≡ one (cleared e)
+cleared_number : (es : List Entry) (k : ℕ) (e : Entry) → numbered es k ≡ Some e → numbered (cleared_all es) k ≡ Some (cleared e)
 unfolding numbered cleared_all
 cleared_number [] k e h = let z : ◌≡◌ {A = ℕ} 0 1 = cc in absurd (omega arith)
 cleared_number (x ∷ es) zero e h = let s : x ≡ e = cc in rw s
@@ -123,10 +125,10 @@ reserved_nothing : (a : ℕ) (xs ys : List Entry) → TypedReserved xs ys → No
 reserved_nothing a xs ys r =
     record { sender = refl; count = sym (clear_length xs) ∙ ap length r.cleared ∙ clear_length ys; blocks = pair }
   where
-    pair : (k : ℕ) (x y : Entry) → numbered xs k ≡ one x → numbered ys k ≡ one y → Alike xs ys x y
+    pair : (k : ℕ) (x y : Entry) → numbered xs k ≡ Some x → numbered ys k ≡ Some y → Alike xs ys x y
     pair k x y p q = go (read_in xs x) refl
       where
-        both : one (cleared x) ≡ one (cleared y)
+        both : Some (cleared x) ≡ Some (cleared y)
         both = sym (cleared_number xs k x p) ∙ ap (λ (es : List Entry). numbered es k) r.cleared ∙ cleared_number ys k y q
 
         equal : cleared x ≡ cleared y

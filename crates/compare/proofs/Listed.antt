@@ -1,7 +1,7 @@
 -- Each entry of the lent list is a difference, each difference has its entry, and they stand in order: `ListedExactly` of
 -- specs/Laws.antt. Assumes nothing.
 use Prim.Native.Nat.{ℕ, ◌+◌, ◌*◌}
-use mathlib.Core.Path.{◌≡◌, refl, ◌∙◌}
+use mathlib.Core.Path.{◌≡◌, refl, ap, ◌∙◌}
 use mathlib.Core.Logic.{◌⊎◌, inl, inr}
 use mathlib.Core.Bool.{Bool, true, false}
 use mathlib.Core.List.{List, ◌++◌}
@@ -12,16 +12,16 @@ use Rattle.refusal.specs.Table.{buffer_short}
 use Rattle.refusal.specs.Answer.{unless}
 use Rattle.frame.specs.Frames.{Entry}
 use Rattle.difference.specs.declared.Difference.{Difference}
-use Rattle.compare.specs.declared.Compared.TheVariants.{Differences, Refused}
 use Rattle.difference.specs.Differences.{senders, whole_block, where_unequal}
 use Rattle.compare.specs.Differences.{contents, blocks_from, differences}
 use Rattle.difference.specs.Numbers.{numbers_of}
 use Rattle.compare.specs.Answer.{with_differences}
-use Rattle.compare.specs.Laws.{IsDifference, sender_differs, field_differs, block_differs, first_only, second_only, Listed, ListedExactly}
+use Rattle.compare.specs.Laws.{IsDifference, sender_differs, field_differs, block_differs, first_only, second_only, row_of, Listed, ListedExactly}
 use Rattle.compare.proofs.Members.{In, in_either, in_front, in_back, entry_is, in_at, at_in, ordered_at}
 use Rattle.compare.proofs.Sound.{Diff, field_at, block_at, first_at, second_at, in_unequal, blocks_in_lem, ordered_all}
 use Rattle.compare.proofs.Complete.{unequal_in, blocks_has}
 use Rattle.compare.proofs.Contents.{contents_length, field_count, all_sized}
+use Rattle.std.specs.Prelude.{Ok, Err}
 
 module _ (a : ℕ) (xs : List Entry) (b : ℕ) (ys : List Entry) where
   abbrev all : List Difference
@@ -69,15 +69,15 @@ module _ (a : ℕ) (xs : List Entry) (b : ℕ) (ys : List Entry) where
   listed : (rest : List ℕ) → Listed a xs b ys (numbers_of all ++ rest) (length all)
   listed rest =
       record {
-        each_true = λ i l. rw (entry_is all rest i l) (is_difference (get_or all i (whole_block 0)) (at_in all i l));
-        each_listed = λ d h. let p = in_at all d (has_entry d h) in record { index = p.index; within = p.within; is = entry_is all rest p.index p.within ∙ p.is };
+        each_true = λ i l. record { difference = get_or all i (whole_block 0); row_is = entry_is all rest i l; differs = is_difference (get_or all i (whole_block 0)) (at_in all i l) };
+        each_listed = λ d h. let p = in_at all d (has_entry d h) in record { index = p.index; within = p.within; is = entry_is all rest p.index p.within ∙ ap row_of p.is };
         ordered = λ i j h l. rw (entry_is all rest i (omega arith), entry_is all rest j l) (ordered_at all (ordered_all a b (senders a b) (contents xs xs) (contents ys ys) refl) i j h l);
       }
 
 pub listed_exactly : ListedExactly
 listed_exactly a xs b ys out n h = go (leb (5 * length (all a xs b ys)) (length out)) h
   where
-    go : (t : Bool) → unless t (Refused buffer_short) (Differences (length (all a xs b ys))) ≡ Differences n →
-        Listed a xs b ys (with_differences (unless t (Refused buffer_short) (Differences (length (all a xs b ys)))) (all a xs b ys) out) n
+    go : (t : Bool) → unless t (Err buffer_short) (Ok (length (all a xs b ys))) ≡ Ok n →
+        Listed a xs b ys (with_differences (unless t (Err buffer_short) (Ok (length (all a xs b ys)))) (all a xs b ys) out) n
     go true e = let s : length (all a xs b ys) ≡ n = cc in rw (← s) (listed a xs b ys (drop (5 * length (all a xs b ys)) out))
     go false e = let z : ◌≡◌ {A = ℕ} 0 1 = cc in absurd (omega arith)

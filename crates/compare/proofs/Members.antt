@@ -6,9 +6,9 @@ use mathlib.Core.List.{List, [], ◌∷◌, ◌++◌}
 use native.Mathlib.Omega.{arith}
 use lib.ListN.{length, get_or}
 use Rattle.difference.specs.declared.Difference.{Difference}
-use Rattle.difference.specs.Differences.{whole_block}
+use Rattle.difference.specs.Differences.{kind_number, whole_block}
 use Rattle.difference.specs.Numbers.{numbers_of}
-use Rattle.compare.specs.Laws.{Before, entry_in}
+use Rattle.compare.specs.Laws.{Before, row_of, entry_in}
 
 abbrev pub In : Difference → List Difference → Type 0
 In d [] = ⊥
@@ -36,13 +36,13 @@ in_back d (c ∷ ds) es h = inr (in_back d ds es h)
 abbrev nowhere : Difference
 nowhere = whole_block 0
 
-pub entry_is : (ds : List Difference) (rest : List ℕ) (i : ℕ) → i < length ds → entry_in (numbers_of ds ++ rest) i ≡ get_or ds i nowhere
+pub entry_is : (ds : List Difference) (rest : List ℕ) (i : ℕ) → i < length ds → entry_in (numbers_of ds ++ rest) i ≡ row_of (get_or ds i nowhere)
 unfolding numbers_of
 entry_is [] rest i l = absurd (omega arith)
 entry_is (d ∷ ds) rest zero l = refl
 entry_is (d ∷ ds) rest (suc i) l = moved (numbers_of ds ++ rest) ∙ entry_is ds rest i (omega arith)
   where
-    moved : (l : List ℕ) → entry_in (d.kind ∷ d.block ∷ d.field ∷ d.first ∷ d.second ∷ l) (suc i) ≡ entry_in l i
+    moved : (l : List ℕ) → entry_in (kind_number d.kind ∷ d.block ∷ d.field ∷ d.first ∷ d.second ∷ l) (suc i) ≡ entry_in l i
     moved l =
         let n : 5 * suc i ≡ suc (suc (suc (suc (suc (5 * i))))) = omega arith in
         let n₁ : 5 * suc i + 1 ≡ suc (suc (suc (suc (suc (5 * i + 1))))) = omega arith in
@@ -69,17 +69,17 @@ at_in (d ∷ ds) (suc i) l = inr (at_in ds i (omega arith))
 -- in order
 abbrev pub Ordered : List Difference → Type 0
 Ordered [] = ◌≡◌ {A = ℕ} 0 0
-Ordered (d ∷ ds) = ((e : Difference) → In e ds → Before d e) × Ordered ds
+Ordered (d ∷ ds) = ((e : Difference) → In e ds → Before (row_of d) (row_of e)) × Ordered ds
 
-pub ordered_both : (ds es : List Difference) → Ordered ds → Ordered es → ((d e : Difference) → In d ds → In e es → Before d e) → Ordered (ds ++ es)
+pub ordered_both : (ds es : List Difference) → Ordered ds → Ordered es → ((d e : Difference) → In d ds → In e es → Before (row_of d) (row_of e)) → Ordered (ds ++ es)
 ordered_both [] es p q h = q
 ordered_both (d ∷ ds) es p q h = (λ e i. go e (in_either e ds es i), ordered_both ds es p.1 q (λ c e a b. h c e (inr a) b))
   where
-    go : (e : Difference) → In e ds ⊎ In e es → Before d e
+    go : (e : Difference) → In e ds ⊎ In e es → Before (row_of d) (row_of e)
     go e (inl a) = p.0 e a
     go e (inr b) = h d e (inl refl) b
 
-pub ordered_at : (ds : List Difference) → Ordered ds → (i j : ℕ) → i < j → j < length ds → Before (get_or ds i nowhere) (get_or ds j nowhere)
+pub ordered_at : (ds : List Difference) → Ordered ds → (i j : ℕ) → i < j → j < length ds → Before (row_of (get_or ds i nowhere)) (row_of (get_or ds j nowhere))
 ordered_at [] p i j h l = absurd (omega arith)
 ordered_at (d ∷ ds) p zero zero h l = absurd (omega arith)
 ordered_at (d ∷ ds) p zero (suc j) h l = p.0 (get_or ds j nowhere) (at_in ds j (omega arith))

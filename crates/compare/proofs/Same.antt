@@ -1,7 +1,7 @@
 -- Two lists compared number by number, and blocks word by word: the turns of the loops. Assumes nothing.
 use Prim.Native.Nat.{ℕ, ◌+◌, ◌*◌, ◌<◌, ◌≤◌}
 use mathlib.Core.Path.{◌≡◌, refl, sym, ap, ◌∙◌}
-use mathlib.Core.Bool.{Bool, true, false}
+use mathlib.Core.Bool.{Bool, true, false, beq}
 use mathlib.Core.List.{List}
 use native.Mathlib.Omega.{arith}
 use native.Mathlib.Numerals.{add-one}
@@ -73,3 +73,16 @@ module _ (x y : List ℕ) (i : ℕ) (l : i + 4 ≤ length x) (m : i + 4 ≤ leng
           let e = same_bytes (drop i x) (drop i y) h in
           absurd (n (word_is x i l ∙ rw (byte e 0 i (omega arith), byte e 1 (i + 1) refl, byte e 2 (i + 2) refl, byte e 3 (i + 2 + 1) (omega arith)) (sym (word_is y i m))))
       go false h = refl
+
+-- what a comparison of two tests says
+pub beq_same : (a b : Bool) → beq a b ≡ true → a ≡ b
+beq_same true true h = refl
+beq_same true false h = sym h
+beq_same false true h = h
+beq_same false false h = refl
+
+pub beq_apart : (a b : Bool) → beq a b ≡ false → a ≡ b → ⊥
+beq_apart true true h e = let z : ◌≡◌ {A = ℕ} 0 1 = cc in omega arith
+beq_apart true false h e = let z : ◌≡◌ {A = ℕ} 0 1 = cc in omega arith
+beq_apart false true h e = let z : ◌≡◌ {A = ℕ} 0 1 = cc in omega arith
+beq_apart false false h e = let z : ◌≡◌ {A = ℕ} 0 1 = cc in omega arith

@@ -9,9 +9,9 @@ use borrow.Author.Tests.{eqb-true, eqb-false}
 use lib.Dec.{eqb}
 use lib.ListN.{length, get_or}
 use Rattle.difference.specs.declared.Difference.{Difference}
-use Rattle.difference.specs.Differences.{fields, whole_block, only_first, only_second, where_unequal, fields_from}
+use Rattle.difference.specs.Differences.{kind_number, fields, whole_block, only_first, only_second, where_unequal, fields_from}
 use Rattle.compare.specs.Differences.{Content, typed, bytes, same_numbers, between, only_seconds, blocks_from}
-use Rattle.compare.specs.Laws.{Before, sender_first, block_first, field_first}
+use Rattle.compare.specs.Laws.{row_of, Before, sender_first, block_first, field_first}
 use Rattle.compare.proofs.Nothing.{bytes_same}
 use Rattle.compare.proofs.Members.{In, in_either, Ordered, ordered_both}
 
@@ -136,16 +136,16 @@ blocks_in_lem k (x ∷ xs) (y ∷ ys) d h = go (in_either d (between k x y) (blo
     go (inr i) rest = behind_both k x y xs ys d (rest i)
 
 -- the kind and block of an entry, and its order among them
-pub from_block : (k : ℕ) (xs ys : List Content) (d : Difference) → Diff k xs ys d → (0 < d.kind) × (k ≤ d.block)
+pub from_block : (k : ℕ) (xs ys : List Content) (d : Difference) → Diff k xs ys d → (0 < kind_number d.kind) × (k ≤ d.block)
 from_block k xs ys d (field_at j f t us vs a b p q l n is) = rw is (omega arith, omega arith)
 from_block k xs ys d (block_at j a b n m is) = rw is (omega arith, omega arith)
 from_block k xs ys d (first_at j a b is) = rw is (omega arith, omega arith)
 from_block k xs ys d (second_at j a b is) = rw is (omega arith, omega arith)
 
-in_one : (k : ℕ) (x y : Content) (d : Difference) → In d (between k x y) → (0 < d.kind) × (d.block ≡ k)
+in_one : (k : ℕ) (x y : Content) (d : Difference) → In d (between k x y) → (0 < kind_number d.kind) × (d.block ≡ k)
 in_one k x y d h = go (between_in k x y [] [] d h)
   where
-    go : Diff k (x ∷ []) (y ∷ []) d → (0 < d.kind) × (d.block ≡ k)
+    go : Diff k (x ∷ []) (y ∷ []) d → (0 < kind_number d.kind) × (d.block ≡ k)
     go (field_at j f t us vs a b p q l n is) = rw is (omega arith, omega arith)
     go (block_at j a b n m is) = rw is (omega arith, omega arith)
     go (first_at j a b is) = absurd (omega arith)
@@ -166,7 +166,7 @@ ordered_fields k f (u ∷ us) (v ∷ vs) =
     ordered_both (where_unequal u v (fields k f u v)) (fields_from k (suc f) us vs) (ordered_unequal u v (fields k f u v)) (ordered_fields k (suc f) us vs)
     (λ d e i j. later d e (in_unequal u v (fields k f u v) d i).1 (fields_in k (suc f) us vs e j))
   where
-    later : (d e : Difference) → d ≡ fields k f u v → FieldAt k (suc f) us vs e → Before d e
+    later : (d e : Difference) → d ≡ fields k f u v → FieldAt k (suc f) us vs e → Before (row_of d) (row_of e)
     later d e i a = rw (i, a.is) (field_first (omega arith) (omega arith) refl (omega arith))
 
 ordered_between : (k : ℕ) (x y : Content) → Ordered (between k x y)
@@ -198,7 +198,7 @@ ordered_blocks k (x ∷ xs) (y ∷ ys) =
     ordered_both (between k x y) (blocks_from (suc k) xs ys) (ordered_between k x y) (ordered_blocks (suc k) xs ys)
     (λ d e i j. let here = in_one k x y d i in let f = from_block (suc k) xs ys e (blocks_in_lem (suc k) xs ys e j) in block_first here.0 f.0 (omega arith))
 
-pub ordered_all : (a b : ℕ) (c : Difference) (xs ys : List Content) → c.kind ≡ 0 → Ordered (where_unequal a b c ++ blocks_from 0 xs ys)
+pub ordered_all : (a b : ℕ) (c : Difference) (xs ys : List Content) → kind_number c.kind ≡ 0 → Ordered (where_unequal a b c ++ blocks_from 0 xs ys)
 ordered_all a b c xs ys zero-kind =
     ordered_both (where_unequal a b c) (blocks_from 0 xs ys) (ordered_unequal a b c) (ordered_blocks 0 xs ys)
-    (λ d e i j. let is = (in_unequal a b c d i).1 in let f = from_block 0 xs ys e (blocks_in_lem 0 xs ys e j) in sender_first (ap (λ (x : Difference). x.kind) is ∙ zero-kind) f.0)
+    (λ d e i j. let is = (in_unequal a b c d i).1 in let f = from_block 0 xs ys e (blocks_in_lem 0 xs ys e j) in sender_first (ap (λ (x : Difference). kind_number x.kind) is ∙ zero-kind) f.0)

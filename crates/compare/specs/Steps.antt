@@ -1,5 +1,5 @@
 -- What the private functions take: blocks by their own bytes, and sorted tables of their packets' measured sources.
-use Rattle.std.specs.Prelude.{ℕ, ◌+◌, ◌*◌, ◌≤◌, ◌≡◌, Bool, true, cond, ◌&&◌, List, [], ◌∷◌, eqb, length, get_or, drop}
+use Rattle.std.specs.Prelude.{ℕ, ◌+◌, ◌*◌, ◌≤◌, ◌≡◌, Bool, true, cond, ◌&&◌, List, [], ◌∷◌, eqb, length, get_or, drop, Result}
 use Rattle.wire.specs.BigEndian.{u16_at}
 use Rattle.sorting.specs.Order.{Sorted}
 use Rattle.block.specs.Types.{unmeasured}
@@ -11,11 +11,12 @@ use Rattle.packet.specs.Blocks.{measured, read_among}
 use Rattle.verdict.specs.Verdict.{verdict_of}
 use Rattle.verdict.specs.Sources.{member, typed_by}
 use Rattle.difference.specs.declared.Difference.{Difference}
+use Rattle.difference.specs.declared.Kind.{Kind}
 use Rattle.difference.specs.Differences.{only_first, only_second}
 use Rattle.difference.specs.Places.{values_in}
-use Rattle.compare.specs.declared.Compared.{Compared}
 use Rattle.compare.specs.Answer.{compare_answer, list_after}
 use Rattle.compare.specs.Differences.{Content, typed, bytes, between}
+use Rattle.refusal.specs.declared.Refusal.{Refusal}
 
 -- a block: its first word has its length
 pub record Whole (x : List ℕ) : Type 0 where
@@ -49,14 +50,8 @@ abbrev pub both_typed : List ℕ → List ℕ → List ℕ → List ℕ → Bool
 both_typed table other x y = eqb (get_or x 0 0) (get_or y 0 0) && (typed_by table (read_bytes x) && typed_by other (read_bytes y))
 
 -- a difference of this kind that has no readings
-abbrev pub whole : ℕ → ℕ → Difference
+abbrev pub whole : Kind → ℕ → Difference
 whole kind k = record { kind = kind; block = k; field = 0; first = 0; second = 0 }
-
--- the tables are sorted, and the same where `alike` says so
-pub record Tables (table other : List ℕ) (alike : Bool) : Type 0 where
-  pub sorted : Sorted table
-  pub other_sorted : Sorted other
-  pub same : alike ≡ true → table ≡ other
 
 -- what is compared of a block with these bytes, in a packet with the sources of this table
 abbrev pub content_by : Bool → List ℕ → Content
@@ -92,5 +87,5 @@ abbrev pub Holds : List ℕ → List ℕ → Type 0
 Holds s table = (sender : ℕ) (blocks : List Entry) → packet_of s ≡ good sender blocks → (length s ≤ 32 * length table) × (length s ≤ 262144)
 
 -- the answer and the list that are promised
-abbrev pub Answers : List ℕ → List ℕ → List ℕ → List ℕ → Compared → Type 0
+abbrev pub Answers : List ℕ → List ℕ → List ℕ → List ℕ → Result ℕ Refusal → Type 0
 Answers s t out out' answer = (answer ≡ compare_answer (packet_of s) (packet_of t) out) × (out' ≡ list_after (packet_of s) (packet_of t) out)

@@ -10,8 +10,6 @@ use lib.Seq.{take_at, drop_at, drop-drop, length-take-le}
 use Rattle.refusal.specs.Answer.{after}
 use Rattle.refusal.specs.Table.{buffer_short}
 use Rattle.refusal.specs.declared.Refusal.{Refusal}
-use Rattle.refusal.specs.declared.Written.{Written}
-use Rattle.refusal.specs.declared.Written.TheVariants.{Size, Refused}
 use Rattle.sorting.specs.Order.{Sorted, Permuted}
 use Rattle.frame.specs.Packet.{bad, packet_of}
 use Rattle.packet.specs.Steps.{blocks_of}
@@ -23,18 +21,20 @@ use Rattle.survey.specs.Survey.{listing, list_of, list_answer}
 use Rattle.survey.specs.Packed.{packing, spread_of, Room, Marked, Settleable}
 use Rattle.survey.proofs.Marking.{packing_length}
 use Rattle.survey.proofs.Spreading.{spread_packing}
+use Rattle.std.specs.Prelude.{Option, Ok, Err}
+use Rattle.refusal.specs.Answer.{Written}
 
 abbrev Promised : List ℕ → List ℕ → Written → List ℕ → Type 0
 Promised s out answer out' = (answer ≡ list_answer (packet_of s) out) × (out' ≡ after (list_answer (packet_of s) out) (list_of (packet_of s)) out)
 
-pub list_refused : (s out : List ℕ) (r : Refusal) → packet_of s ≡ bad r → Promised s out (Refused r) out
+pub list_refused : (s out : List ℕ) (r : Refusal) → packet_of s ≡ bad r → Promised s out (Err r) out
 list_refused s out r p = (rw p, rw p)
 
-module _ (s out : List ℕ) (sender count first : ℕ) (o : Here Whole s 0 sender count first) where
+module _ (s out : List ℕ) (sender count : ℕ) (first : Option ℕ) (o : Here Whole s 0 sender count first) where
   same : o.blocks ≡ blocks_of s
   same = sym (blocks_are s sender o.blocks o.packet)
 
-  pub list_short : length out < 2 * count → Promised s out (Refused buffer_short) out
+  pub list_short : length out < 2 * count → Promised s out (Err buffer_short) out
   list_short h =
       let counted = o.counted in
       let t = lt-leb (2 * length o.blocks) (length out) (omega arith) in
@@ -43,7 +43,7 @@ module _ (s out : List ℕ) (sender count first : ℕ) (o : Here Whole s 0 sende
   pub list_room : length s ≤ 262144 → 2 * count ≤ length out → Room s out count
   list_room short h = record { whole_blocks = blocks_whole s sender o.blocks o.packet; short = short; counted = o.counted ∙ ap length same; fits = h }
 
-  pub list_done : (out' : List ℕ) → 2 * count ≤ length out → out' ≡ listing (blocks_of s) (blocks_of s) ++ drop (2 * count) out → Promised s out (Size (2 * count)) out'
+  pub list_done : (out' : List ℕ) → 2 * count ≤ length out → out' ≡ listing (blocks_of s) (blocks_of s) ++ drop (2 * count) out → Promised s out (Ok (2 * count)) out'
   list_done out' h e =
       let counted = o.counted in
       let t = le-leb (2 * length o.blocks) (length out) (omega arith) in

@@ -4,6 +4,7 @@ use Prim.Native.Nat.{ℕ, suc, ◌+◌, ◌*◌, ◌<◌, ◌≤◌}
 use mathlib.Core.Path.{◌≡◌, refl, sym, ap, ◌∙◌}
 use mathlib.Core.List.{List, [], ◌∷◌, ◌++◌, append-nil}
 use native.Mathlib.Omega.{arith}
+use native.Mathlib.Decide.{dec_lt}
 use native.Mathlib.Numerals.{add-one}
 use lib.ListN.{length, get_or, take, drop, set, length-append, length-set}
 use lib.Seq.{take-set-le, drop-set-add, drop-cons, set_at, append_snoc}
@@ -113,17 +114,24 @@ module _ (s old : List ℕ) (count : ℕ) (room : Room s old count) where
           long = grow.long ∙ length-set out i (at * verdicts + v) ∙ long;
         }
 
-    pub mark_end : length s ≤ at → Marked s old out count k
-    mark_end h =
-        let none : whole m.left ≡ whole [] = sym m.frames ∙ at_end s at (length s) h in
-        let empty : m.left ≡ [] = cc in
-        let all : blocks_of s ≡ m.passed = m.blocks ∙ ap (λ (es : List Entry). m.passed ++ es) empty ∙ append-nil m.passed in
-        let counted : count ≡ length m.passed = room.counted ∙ ap length all in
-        let few = m.few in
-        let index = m.index in
-        let twice : i ≡ 2 * count = omega arith in
-        record {
-          few = omega arith;
-          same = λ x. m.same x ∙ ap (measured x) (sym all);
-          packed = rw all (rw twice at m.packed);
-        }
+    pub mark_end : length s < next_at s at → Marked s old out count k
+    mark_end h = go (dec_lt at (length s))
+      where
+        stop : length s ≤ at → Marked s old out count k
+        stop l =
+            let none : whole m.left ≡ whole [] = sym m.frames ∙ at_end s at (length s) l in
+            let empty : m.left ≡ [] = cc in
+            let all : blocks_of s ≡ m.passed = m.blocks ∙ ap (λ (es : List Entry). m.passed ++ es) empty ∙ append-nil m.passed in
+            let counted : count ≡ length m.passed = room.counted ∙ ap length all in
+            let few = m.few in
+            let index = m.index in
+            let twice : i ≡ 2 * count = omega arith in
+            record {
+              few = omega arith;
+              same = λ x. m.same x ∙ ap (measured x) (sym all);
+              packed = rw all (rw twice at m.packed);
+            }
+
+        go : Dec (at < length s) → Marked s old out count k
+        go (no past) = stop (omega arith)
+        go (yes inside) = let fits = mark_fits inside in absurd (omega arith)

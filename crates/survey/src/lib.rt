@@ -15,30 +15,27 @@ ghost use Rattle.verdict.specs.Sources.{Table};
 ghost use Rattle.survey.specs.Survey.{list_of, list_answer};
 ghost use Rattle.survey.specs.Packed.{verdicts, packing, spread_of, Room, Marked, Settleable};
 
-use frame::{Extent, Located};
-use refusal::Written;
+use frame::Extent;
+use refusal::Refusal;
 
 // A packed block is its place times this, plus its verdict. Places are below 262,144.
 const VERDICTS: u32 = 256;
 
 // Fills out with two numbers for each block, its place and its verdict.
-pub fn list(packet: &[u8], out: &mut [u32]) -> Written
+pub fn list(packet: &[u8], out: &mut [u32]) -> Result<usize, Refusal>
     ensures answer { result ≡ list_answer (packet_of packet.now) out.old }
     ensures buffer { out.new ≡ after (list_answer (packet_of packet.now) out.old) (list_of (packet_of packet.now)) out.old }
 {
-    match frame::locate(packet, Extent::Whole, 0) {
-        Located::Good(_, count, _) => {
-            if out.len() / 2 < count {
-                return Written::Refused(refusal::BUFFER_SHORT);
-            }
-            let k = mark(packet, out, count);
-            sorting::sort(&mut out[..k]);
-            settle(packet, out, count, k);
-            spread(out, count);
-            Written::Size(2 * count)
-        }
-        Located::Refused(r) => Written::Refused(r),
+    let located = frame::locate(packet, Extent::Whole, 0)?;
+    let count = located.count;
+    if out.len() / 2 < count {
+        return Err(Refusal::BufferShort);
     }
+    let k = mark(packet, out, count);
+    sorting::sort(&mut out[..k]);
+    settle(packet, out, count, k);
+    spread(out, count);
+    Ok(2 * count)
 }
 
 // Walks the blocks: entry count + i takes block i, judged as if nothing were measured, and the first entries
@@ -50,8 +47,8 @@ fn mark(s: &[u8], out: &mut [u32], count: usize) -> usize
     let mut at = frame::FIRST_BLOCK;
     let mut i = count;
     let mut k = 0;
-    while at < s.len() {
-        let bytes = frame::block_at(s, at);
+    // Three numbers go on together: the block's place, its entry and the sources so far.
+    for bytes in frame::blocks_from(s, frame::FIRST_BLOCK) {
         out[i] = at as u32 * VERDICTS + verdict::alone(bytes) as u32;
         k = verdict::gather(bytes, out, k);
         at += bytes.len();
@@ -65,13 +62,11 @@ fn settle(s: &[u8], out: &mut [u32], count: usize, k: usize)
     requires { Settleable s.now out.old count k }
     ensures { drop count out.new ≡ packing (blocks_of s.now) (blocks_of s.now) ++ drop (2 * count) out.old }
 {
-    let mut i = count;
-    while i < 2 * count {
+    for i in count..2 * count {
         let packed = out[i];
         if is_measured(s, out, k, packed) {
-            out[i] = packed - block::UNMEASURED as u32;
+            out[i] = packed - verdict::UNMEASURED as u32;
         }
-        i += 1;
     }
 }
 
@@ -80,7 +75,7 @@ fn is_measured(s: &[u8], table: &[u32], k: usize, packed: u32) -> bool
     requires { Table s.now table.now k }
     ensures { result ≡ (eqb (packed % verdicts) unmeasured && measured (u32_at s.now (packed / verdicts + 4)) (blocks_of s.now)) }
 {
-    if packed % VERDICTS != block::UNMEASURED as u32 {
+    if packed % VERDICTS != verdict::UNMEASURED as u32 {
         return false;
     }
     let start = (packed / VERDICTS) as usize + 4;
@@ -92,11 +87,9 @@ fn spread(out: &mut [u32], count: usize)
     requires { 2 * count ≤ length out.old }
     ensures { out.new ≡ spread_of (take count (drop count out.old)) ++ drop (2 * count) out.old }
 {
-    let mut i = 0;
-    while i < count {
+    for i in 0..count {
         let packed = out[count + i];
         out[2 * i] = packed / VERDICTS;
         out[2 * i + 1] = packed % VERDICTS;
-        i += 1;
     }
 }

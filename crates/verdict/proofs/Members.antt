@@ -13,12 +13,11 @@ use lib.Seq.{take_at, take-suc-set, drop-set-lt, drop-drop, length-take-le}
 use Rattle.sorting.specs.Order.{one, times, Sorted, Permuted}
 use Rattle.block.specs.Reading.{measures_of}
 use Rattle.block.specs.declared.BlockRead.{BlockRead}
-use Rattle.block.specs.declared.Measures.{Measures}
-use Rattle.block.specs.declared.Measures.TheVariants.{Source, Nothing}
 use Rattle.frame.specs.Frames.{Entry}
 use Rattle.packet.specs.Blocks.{read_alone, names, measures, measured}
 use Rattle.packet.specs.Steps.{blocks_of}
 use Rattle.verdict.specs.Sources.{member, gathered_count, gathered_table, Table}
+use Rattle.std.specs.Prelude.{Option, Some, None}
 
 member_append : (x : ℕ) (s t : List ℕ) → member x (s ++ t) ≡ (member x s || member x t)
 unfolding member
@@ -59,14 +58,14 @@ pub permuted_member : (old new : List ℕ) → Permuted old new → (x : ℕ) �
 permuted_member old new p x = by_times x new ∙ ap some (p.same x) ∙ sym (by_times x old)
 
 -- the first r numbers of `new` are the first k of `old`, and the source that a block measures, if any
-pub record Grown (m : Measures) (old new : List ℕ) (k r : ℕ) : Type 0 where
+pub record Grown (m : Option ℕ) (old new : List ℕ) (k r : ℕ) : Type 0 where
   pub same : (x : ℕ) → member x (take r new) ≡ (names m x || member x (take k old))
   pub few : r ≤ k + 1
   pub rest : drop (k + 1) new ≡ drop (k + 1) old
   pub long : length new ≡ length old
 
 -- a table that grows by the source of one block, where it measures one
-grown : (old : List ℕ) (k x : ℕ) → k < length old → Grown (Source x) old (set old k x) k (k + 1)
+grown : (old : List ℕ) (k x : ℕ) → k < length old → Grown (Some x) old (set old k x) k (k + 1)
 unfolding member
 grown old k x l =
     record {
@@ -84,13 +83,13 @@ grown old k x l =
     swap false true = refl
     swap false false = refl
 
-kept : (old : List ℕ) (k : ℕ) → Grown Nothing old old k k
+kept : (old : List ℕ) (k : ℕ) → Grown None old old k k
 kept old k = record { same = λ y. refl; few = omega arith; rest = refl; long = refl }
 
-pub gather_grows : (m : Measures) (old new : List ℕ) (k r : ℕ) → k < length old →
+pub gather_grows : (m : Option ℕ) (old new : List ℕ) (k r : ℕ) → k < length old →
     r ≡ gathered_count m (length old) k → new ≡ gathered_table m old k → Grown m old new k r
-gather_grows (Source x) old new k r l count table = rw (count, table, lt-leb (length old) k l) (grown old k x l)
-gather_grows Nothing old new k r l count table = rw (count, table) (kept old k)
+gather_grows (Some x) old new k r l count table = rw (count, table, lt-leb (length old) k l) (grown old k x l)
+gather_grows None old new k r l count table = rw (count, table) (kept old k)
 
 measured_snoc : (x : ℕ) (es : List Entry) (e : Entry) → measured x (es ++ (e ∷ [])) ≡ (measures x e || measured x es)
 unfolding measured
@@ -111,17 +110,17 @@ grown_measured es e own old new k r is grow same x =
     ∙ sym (measured_snoc x es e)
 
 -- the cases of gathering: a full table, a block that measures a source, one that measures nothing
-abbrev Gathered : Measures → List ℕ → ℕ → ℕ → List ℕ → Type 0
+abbrev Gathered : Option ℕ → List ℕ → ℕ → ℕ → List ℕ → Type 0
 Gathered m old k r new = (r ≡ gathered_count m (length old) k) × (new ≡ gathered_table m old k)
 
-pub gather_full : (m : Measures) (old : List ℕ) (k : ℕ) → length old ≤ k → Gathered m old k k old
-gather_full (Source x) old k h = let t = le-leb (length old) k h in (rw t, rw t)
-gather_full Nothing old k h = (refl, refl)
+pub gather_full : (m : Option ℕ) (old : List ℕ) (k : ℕ) → length old ≤ k → Gathered m old k k old
+gather_full (Some x) old k h = let t = le-leb (length old) k h in (rw t, rw t)
+gather_full None old k h = (refl, refl)
 
-pub gather_source : (m : Measures) (old : List ℕ) (k x : ℕ) → k < length old → m ≡ Source x → Gathered m old k (k + 1) (set old k x)
+pub gather_source : (m : Option ℕ) (old : List ℕ) (k x : ℕ) → k < length old → m ≡ Some x → Gathered m old k (k + 1) (set old k x)
 gather_source m old k x h e = let t = lt-leb (length old) k h in (rw (e, t), rw (e, t))
 
-pub gather_nothing : (m : Measures) (old : List ℕ) (k : ℕ) → m ≡ Nothing → Gathered m old k k old
+pub gather_nothing : (m : Option ℕ) (old : List ℕ) (k : ℕ) → m ≡ None → Gathered m old k k old
 gather_nothing m old k e = (rw e, rw e)
 
 -- lists that are the same from one place on are the same from any later place on

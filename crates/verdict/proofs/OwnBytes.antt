@@ -12,21 +12,22 @@ use lib.Seq.{get_or-drop, take_all}
 use Rattle.refusal.specs.Answer.{unless}
 use Rattle.wire.specs.BigEndian.{be16, u16_at}
 use Rattle.wire.proofs.Numbers.{u16_inside}
-use Rattle.block.specs.Types.{rle_type, measurement_type, loss_type, discard_type, effective_type, streams_type, measurement_words, loss_words, discard_words, effective_words, streams_words, bad_size, bad_flag, bad_rate, unmeasured, bad_chunks}
+use Rattle.block.specs.Types.{rle_type, measurement_type, loss_type, discard_type, effective_type, streams_type, measurement_words, loss_words, discard_words, effective_words, streams_words, bad_flag, bad_rate, unmeasured}
 use Rattle.block.specs.Layouts.{flag_in, thinning_in, rle_in}
 use Rattle.block.specs.Reading.{flag_good, rates_good, sized, summary_read, needs_of, read_measurement, read_loss, read_discard, read_effective, read_streams, rle_sized, rle_covered, read_rle, read_block, read_bytes}
 use Rattle.block.specs.declared.LossRle.{LossRle}
 use Rattle.block.specs.declared.Block.{Block}
 use Rattle.block.specs.declared.BlockRead.{BlockRead}
 use Rattle.block.specs.declared.BlockRead.TheVariants.{Typed, Rle, Dropped}
-use Rattle.block.specs.declared.Needs.TheVariants.{Nothing, MeasurementOf}
 use Rattle.packet.specs.Blocks.{measured, read_among}
 use Rattle.verdict.specs.Verdict.{verdict_of}
 use Rattle.verdict.specs.Alone.{size_verdict, summary_verdict}
+use Rattle.std.specs.Prelude.{Some, None}
+use Rattle.block.specs.declared.Reason.TheVariants.{BadSize, BadFlag, BadRate, BadChunks}
 
 -- a type 1 needs nothing of its packet, whatever its size, thinning and chunks come to
 abbrev rle_answer : Bool → Bool → Bool → LossRle → BlockRead
-rle_answer s t c r = unless s (Dropped bad_size) (unless t (Dropped bad_flag) (unless c (Dropped bad_chunks) (Rle r)))
+rle_answer s t c r = unless s (Dropped BadSize) (unless t (Dropped BadFlag) (unless c (Dropped BadChunks) (Rle r)))
 
 rle_is : (s t c : Bool) (r : LossRle) → verdict_of (rle_answer s t c r) ≡ verdict_of (read_among [] (rle_answer s t c r))
 rle_is false t c r = refl
@@ -38,7 +39,7 @@ module _ (bytes : List ℕ) (some : 4 ≤ length bytes) where
   abbrev body : List ℕ
   body = drop 4 bytes
 
-  size_is : (words : ℕ) (b : Block) → needs_of b ≡ Nothing → size_verdict (length bytes) (4 + 4 * words) ≡ verdict_of (read_among [] (sized words body (Typed b)))
+  size_is : (words : ℕ) (b : Block) → needs_of b ≡ None → size_verdict (length bytes) (4 + 4 * words) ≡ verdict_of (read_among [] (sized words body (Typed b)))
   size_is words b n = go (ℕ_discrete (length bytes) (4 + 4 * words))
     where
       go : Dec (length bytes ≡ 4 + 4 * words) → size_verdict (length bytes) (4 + 4 * words) ≡ verdict_of (read_among [] (sized words body (Typed b)))
@@ -51,12 +52,12 @@ module _ (bytes : List ℕ) (some : 4 ≤ length bytes) where
       let next : 4 + i + 1 ≡ 4 + (i + 1) = omega arith in
       u16_inside bytes (4 + i) h ∙ ap₂ (λ (x y : ℕ). x * 256 + y) (sym (get_or-drop 4 bytes i 0)) (ap (λ (k : ℕ). get_or bytes k 0) next ∙ sym (get_or-drop 4 bytes (i + 1) 0))
 
-  summary_is : (words flag : ℕ) (b : Block) (source : ℕ) → 2 ≤ words → needs_of b ≡ MeasurementOf source →
+  summary_is : (words flag : ℕ) (b : Block) (source : ℕ) → 2 ≤ words → needs_of b ≡ Some source →
       summary_verdict bytes (4 + 4 * words) flag ≡ verdict_of (read_among [] (sized words body (summary_read flag (be16 body 4) (be16 body 6) b)))
   unfolding summary_read measured
   summary_is words flag b source w n = go (ℕ_discrete (length bytes) (4 + 4 * words))
     where
-      tests : (f r : Bool) → unless f bad_flag (unless r bad_rate unmeasured) ≡ verdict_of (read_among [] (unless f (Dropped bad_flag) (unless r (Dropped bad_rate) (Typed b))))
+      tests : (f r : Bool) → unless f bad_flag (unless r bad_rate unmeasured) ≡ verdict_of (read_among [] (unless f (Dropped BadFlag) (unless r (Dropped BadRate) (Typed b))))
       tests false r = refl
       tests true false = refl
       tests true true = rw n

@@ -11,14 +11,18 @@ ghost use Rattle.verdict.specs.Search.{Search};
 ghost use Rattle.verdict.specs.Sources.{member, gathered_count, gathered_table, typed_by};
 ghost use Rattle.verdict.specs.Alone.{size_verdict, summary_verdict};
 
-use block::{BlockRead, Measures};
+use block::{BlockRead, Reason};
 
-// The verdicts besides the reasons to drop a block.
+// The verdicts besides the reasons to drop a block. A verdict is a number, also where `alone` answers it: nuvaskoe_packet_list and
+// nuvaskoe_block hold these numbers, and C reads them there.
 pub const TYPED: u8 = 0;
 
 pub const RLE: u8 = 254;
 
 pub const UNKNOWN: u8 = 255;
+
+// The verdict of a 17 or 18 whose source nothing measures: the number of that reason.
+pub const UNMEASURED: u8 = Reason::Unmeasured as u8;
 
 // The verdict of a block of these bytes in a packet that measures nothing: as `block::read_bytes` has it, but a good 17 or 18
 // is unmeasured. A typed block's struct is not made. Fewer than four bytes are no block, and unknown.
@@ -48,7 +52,7 @@ fn rle_verdict(specific: u8, body: &[u8]) -> u8
         BlockRead::Typed(_) => TYPED,
         BlockRead::Rle(_) => RLE,
         BlockRead::Unknown => UNKNOWN,
-        BlockRead::Dropped(reason) => reason,
+        BlockRead::Dropped(reason) => reason.into(),
     }
 }
 
@@ -56,7 +60,7 @@ fn size_verdict(size: usize, wanted: usize) -> u8
     ensures { result ≡ size_verdict size wanted }
 {
     if size != wanted {
-        return block::BAD_SIZE;
+        return Reason::BadSize.into();
     }
     TYPED
 }
@@ -66,19 +70,20 @@ fn summary_verdict(bytes: &[u8], wanted: usize, flag: u8) -> u8
     ensures { result ≡ summary_verdict bytes.now wanted flag }
 {
     if bytes.len() != wanted {
-        return block::BAD_SIZE;
+        return Reason::BadSize.into();
     }
     if !block::flag_good(flag) {
-        return block::BAD_FLAG;
+        return Reason::BadFlag.into();
     }
     if !block::rates_good(wire::u16_at(bytes, 8), wire::u16_at(bytes, 10)) {
-        return block::BAD_RATE;
+        return Reason::BadRate.into();
     }
-    block::UNMEASURED
+    UNMEASURED
 }
 
 // The source that a block of these bytes measures, if any, put behind the table's first k: answers how many these are
-// then. A table of no more than k stays as it is.
+// then. A table of no more than k stays as it is. The table is lent and only its front is filled, since there is no heap: so
+// the count goes beside it.
 pub fn gather(bytes: &[u8], table: &mut [u32], k: usize) -> usize
     ensures count { result ≡ gathered_count (measures_of (read_bytes bytes.now)) (length table.old) k }
     ensures table { table.new ≡ gathered_table (measures_of (read_bytes bytes.now)) table.old k }
@@ -87,11 +92,11 @@ pub fn gather(bytes: &[u8], table: &mut [u32], k: usize) -> usize
         return k;
     }
     match block::measured_by(bytes) {
-        Measures::Source(source) => {
+        Some(source) => {
             table[k] = source;
             k + 1
         }
-        Measures::Nothing => k,
+        None => k,
     }
 }
 
@@ -104,7 +109,7 @@ pub fn is_typed(bytes: &[u8], table: &[u32]) -> bool
     if verdict == TYPED {
         return true;
     }
-    if verdict != block::UNMEASURED {
+    if verdict != UNMEASURED {
         return false;
     }
     has(table, wire::u32_at(bytes, 4))
@@ -115,7 +120,7 @@ pub fn is_typed(bytes: &[u8], table: &[u32]) -> bool
 pub fn has(table: &[u32], x: u32) -> bool
     ensures { Sorted table.now → result ≡ member x table.now }
 {
-    if table.len() == 0 {
+    if table.is_empty() {
         return false;
     }
     let part = quarter(table, x);
@@ -153,6 +158,7 @@ fn quarter(table: &[u32], x: u32) -> Part
 
 // Where a search begins. Sources are drawn at random (RFC 3550), so that x stands about as far into a long table as into all
 // numbers: among the 63 there, if those around it say so, else anywhere.
+#[tactic(auto, using(crate::proofs::Searching::share))]
 fn near(table: &[u32], x: u32) -> Part
     requires { 0 < length table.now }
     ensures { Search table.now x result.low result.size }

@@ -1,32 +1,15 @@
 -- `compare::good_packets` meets its contract: each return is a case of Answering.antt. Assumes nothing.
-use mathlib.Core.Path.{◌≡◌, refl, sym, ◌∙◌}
-use mathlib.Core.Bool.{true}
-use Rattle.compare.proofs.Nothing.{same_bytes}
+use mathlib.Core.Path.{refl}
 use Rattle.compare.proofs.Answering.{enough, listed, counted, short, room_for}
 use Rattle.compare.proofs.good_packets.Goals as goal
 
-pub list-requires : goal.list-requires
-list-requires c =
-    let alike : c.same_tables-alike.result ≡ true → c.args.table.now ≡ c.args.other.now = λ e. same_bytes _ _ (sym c.same_tables-alike.ensures ∙ e) in
-    (c.requires, alike)
-
 pub returns-then-first-room : goal.returns-then-first-room
 returns-then-first-room c = listed _ _ _ _ c.requires c.args.out.now _ _ (enough _ _ _ _ c.requires c.args.out.now _ refl c.if-first-room.true) c.list.ensures
-
-pub list-requires-2 : goal.list-requires-2
-list-requires-2 c =
-    let alike : c.same_tables-alike.result ≡ true → c.args.table.now ≡ c.args.other.now = λ e. same_bytes _ _ (sym c.same_tables-alike.ensures ∙ e) in
-    (c.requires, alike)
 
 pub returns-then-room-list : goal.returns-then-room-list
 returns-then-room-list c =
     let count = counted _ _ _ _ c.requires c.args.out.now _ _ c.list-2.ensures in
     rw count.0 (short _ _ _ _ c.requires c.args.out.now _ _ count.1 refl c.if-room-list.true)
-
-pub list-requires-3 : goal.list-requires-3
-list-requires-3 c =
-    let alike : c.same_tables-alike.result ≡ true → c.args.table.now ≡ c.args.other.now = λ e. same_bytes _ _ (sym c.same_tables-alike.ensures ∙ e) in
-    (c.requires, alike)
 
 pub returns : goal.returns
 returns c =

@@ -14,7 +14,7 @@ use Rattle.compare.proofs.list.Goals as goal
 pub loop-at-init : goal.loop-at-init
 loop-at-init c =
     let sent : Adds (where_unequal (u32_at c.args.first.now 4) (u32_at c.args.second.now 4) (senders (u32_at c.args.first.now 4) (u32_at c.args.second.now 4))) c.args.out.now c.put_sender-n.new.out 0 c.put_sender-n.result = rw (← c.u32_at.ensures, ← c.u32_at-2.ensures) c.put_sender-n.ensures in
-    let ready = c.requires.0 in record { ready = ready; walk = walk_start _ _ _ _ ready _ _ _ sent }
+    let ready = c.requires in record { ready = ready; walk = walk_start _ _ _ _ ready _ _ _ sent }
 
 pub overflow_cast-n : goal.overflow_cast-n
 overflow_cast-n c = let i = c.loop-at.invariant in omega (arith, walk_few _ _ _ _ i.ready _ _ _ _ _ _ _ i.walk)
@@ -22,8 +22,7 @@ overflow_cast-n c = let i = c.loop-at.invariant in omega (arith, walk_few _ _ _ 
 pub put_block-n-requires : goal.put_block-n-requires
 put_block-n-requires c =
     let i = c.loop-at.invariant in
-    let pre = c.requires in
-    (walk_blocks _ _ _ _ i.ready _ _ _ _ _ _ _ i.walk _ _ c.block_at-x.ensures.part c.block_at-y.ensures.part, record { sorted = pre.0.sorted; other_sorted = pre.0.other_sorted; same = pre.1 })
+    walk_blocks _ _ _ _ i.ready _ _ _ _ _ _ _ i.walk _ _ c.block_at-x.ensures.part c.block_at-y.ensures.part
 
 pub overflow_add-at : goal.overflow_add-at
 overflow_add-at c =

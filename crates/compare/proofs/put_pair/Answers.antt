@@ -7,7 +7,6 @@ use native.Mathlib.Omega.{arith}
 use borrow.Author.Tests.{eq-eqb}
 use Rattle.difference.proofs.Writing.{adds_none}
 use Rattle.compare.specs.Differences.{same_numbers}
-use Rattle.compare.specs.Steps.{Tables}
 use Rattle.compare.proofs.Nothing.{bytes_same}
 use Rattle.compare.proofs.Pairing.{same_block, pair_alike, pair_fields, pair_whole}
 use Rattle.compare.proofs.put_pair.Goals as goal
@@ -16,32 +15,30 @@ pub returns-then-typed_by_size : goal.returns-then-typed_by_size
 returns-then-typed_by_size c =
     let a = c.args in
     let sized = c.typed_by_size.ensures c.if-typed_by_size.true in
-    rw (pair_fields a.k a.x.now a.y.now a.table.now a.other.now (rw (eq-eqb _ _ sized.type, sized.first a.table.now, sized.second a.other.now)))
+    rw (pair_fields a.k a.x.now a.y.now a.sources.first.now a.sources.second.now (rw (eq-eqb _ _ sized.type, sized.first a.sources.first.now, sized.second a.sources.second.now)))
     c.put_fields.ensures
 
-pub returns-then-alike : goal.returns-then-alike
-returns-then-alike c =
-    let tables : Tables c.args.table.now c.args.other.now c.args.alike = c.requires.2 in
+pub returns-then-sources : goal.returns-then-sources
+returns-then-sources c =
     let a = c.args in
-    rw (pair_alike a.k a.x.now a.y.now a.table.now a.other.now (sym c.same_blocks.ensures ∙ c.if-same_blocks.true) (tables.same c.if-alike.true))
+    rw (pair_alike a.k a.x.now a.y.now a.sources.first.now a.sources.second.now (sym c.same_blocks.ensures ∙ c.if-same_blocks.true) (a.sources.same c.if-sources.true))
     (adds_none _ _)
 
 pub put_same-requires : goal.put_same-requires
 put_same-requires c =
-    let tables : Tables c.args.table.now c.args.other.now c.args.alike = c.requires.2 in
-    (sym c.same_blocks.ensures ∙ c.if-same_blocks.true, tables.sorted, tables.other_sorted)
+    sym c.same_blocks.ensures ∙ c.if-same_blocks.true
 
 pub returns-then-both_typed : goal.returns-then-both_typed
 returns-then-both_typed c =
     let a = c.args in
-    rw (pair_fields a.k a.x.now a.y.now a.table.now a.other.now (sym c.both_typed.ensures ∙ c.if-both_typed.true))
+    rw (pair_fields a.k a.x.now a.y.now a.sources.first.now a.sources.second.now (sym c.both_typed.ensures ∙ c.if-both_typed.true))
     c.put_fields-then-both_typed.ensures
 
 pub returns : goal.returns
 returns c =
     let a = c.args in
     let other : same_numbers a.x.now a.y.now ≡ false = sym c.same_blocks.ensures ∙ c.if-same_blocks.false in
-    rw (pair_whole a.k a.x.now a.y.now a.table.now a.other.now
+    rw (pair_whole a.k a.x.now a.y.now a.sources.first.now a.sources.second.now
     (λ h.
     let same = same_block a.x.now a.y.now c.requires.0 c.requires.1 (λ j. omega (arith, c.type_inv.x j)) (λ j. omega (arith, c.type_inv.y j)) h in
     let equal : same_numbers a.x.now a.y.now ≡ true = ap (λ (z : List ℕ). same_numbers z a.y.now) same ∙ bytes_same a.y.now in

@@ -1,65 +1,33 @@
--- `sources::both` meets its contract. The loop's invariant is a `Standing` for each packet. Assumes nothing.
-use Prim.Native.Nat.{◌+◌, ◌<◌, ◌≤◌}
-use mathlib.Core.Path.{◌≡◌, refl, ◌∙◌}
-use native.Mathlib.Omega.{arith}
-use lib.ListN.{length}
-use Rattle.sources.proofs.Gathering.{both_left, both_some, stand_start, stand_inside, stand_on}
+-- `sources::both` meets its contract: a turn takes a block of each packet. Assumes nothing.
+use mathlib.Core.Path.{sym, ◌∙◌}
+use Rattle.std.proofs.Common.{rules}
+use Rattle.frame.proofs.Parting.{first_part}
+use Rattle.sources.proofs.Gathering.{stand_start, stand_on}
 use Rattle.sources.proofs.both.Goals as goal
 
-pub loop-at-init : goal.loop-at-init
-loop-at-init c =
-    let pre = c.requires in
-    (stand_start _ _ pre.0, stand_start _ _ pre.1, refl, refl)
+pub loop-x-init : goal.loop-x-init
+loop-x-init c =
+    let zipped = c.zip-x-items.ensures in
+    record {
+      first_stands = stand_start _ _ c.requires.0;
+      second_stands = stand_start _ _ c.requires.1;
+      first_ahead = rw (c.into_iter-x-iterator.ensures.into_iter_gives, zipped.first) c.blocks_from.ensures;
+      second_ahead = rw (c.into_iter-x-iterator.ensures.into_iter_gives, zipped.second) c.blocks_from-second_blocks.ensures;
+      can = search rules;
+      finite = search rules;
+    }
 
-pub shape_of-table-then-x-y : goal.shape_of-table-then-x-y
-shape_of-table-then-x-y c = c.loop-at.invariant.2
-
-pub shape_of-other-then-x-y : goal.shape_of-other-then-x-y
-shape_of-other-then-x-y c = c.loop-at.invariant.3
-
-pub returns-then-x-y : goal.returns-then-x-y
-returns-then-x-y c = (c.loop-at.invariant.0, c.loop-at.invariant.1)
-
-pub overflow_add-at : goal.overflow_add-at
-overflow_add-at c =
-    let left : (c.loop-at.at < length c.args.first.now) × (c.loop-at.bt < length c.args.second.now) = both_left _ _ _ _ c.loop-at-test.true in
-    let some : (length c.block_at-x.result.now ≡ 0 → ⊥) × (length c.block_at-y.result.now ≡ 0 → ⊥) = both_some _ _ c.if-x-y.false in
-    let first_inside : (c.loop-at.at < c.loop-at.at + length c.block_at-x.result.now) × (c.loop-at.at + length c.block_at-x.result.now ≤ length c.args.first.now) = stand_inside _ _ _ _ c.loop-at.invariant.0 left.0 _ c.block_at-x.ensures.part some.0 in
-    omega (arith, first_inside, c.well_formed.0.1)
-
-pub overflow_add-bt : goal.overflow_add-bt
-overflow_add-bt c =
-    let left : (c.loop-at.at < length c.args.first.now) × (c.loop-at.bt < length c.args.second.now) = both_left _ _ _ _ c.loop-at-test.true in
-    let some : (length c.block_at-x.result.now ≡ 0 → ⊥) × (length c.block_at-y.result.now ≡ 0 → ⊥) = both_some _ _ c.if-x-y.false in
-    let second_inside : (c.loop-at.bt < c.loop-at.bt + length c.block_at-y.result.now) × (c.loop-at.bt + length c.block_at-y.result.now ≤ length c.args.second.now) = stand_inside _ _ _ _ c.loop-at.invariant.1 left.1 _ c.block_at-y.ensures.part some.1 in
-    omega (arith, second_inside, c.well_formed.1.0.1)
-
-pub loop-at-smaller : goal.loop-at-smaller
-loop-at-smaller c =
-    let left : (c.loop-at.at < length c.args.first.now) × (c.loop-at.bt < length c.args.second.now) = both_left _ _ _ _ c.loop-at-test.true in
-    let some : (length c.block_at-x.result.now ≡ 0 → ⊥) × (length c.block_at-y.result.now ≡ 0 → ⊥) = both_some _ _ c.if-x-y.false in
-    let first_inside : (c.loop-at.at < c.loop-at.at + length c.block_at-x.result.now) × (c.loop-at.at + length c.block_at-x.result.now ≤ length c.args.first.now) = stand_inside _ _ _ _ c.loop-at.invariant.0 left.0 _ c.block_at-x.ensures.part some.0 in
-    omega (arith, first_inside)
-
-pub loop-at-preserved : goal.loop-at-preserved
-loop-at-preserved c =
-    let left : (c.loop-at.at < length c.args.first.now) × (c.loop-at.bt < length c.args.second.now) = both_left _ _ _ _ c.loop-at-test.true in
-    let some : (length c.block_at-x.result.now ≡ 0 → ⊥) × (length c.block_at-y.result.now ≡ 0 → ⊥) = both_some _ _ c.if-x-y.false in
-    let old = c.loop-at.invariant in
-    let to = left in
-    let one = c.gather-j in
-    let two = c.gather-k in (
-      stand_on _ _ _ _ old.0 to.0 _ c.block_at-x.ensures.part some.0 _ _ one.ensures.count one.ensures.table,
-      stand_on _ _ _ _ old.1 to.1 _ c.block_at-y.ensures.part some.1 _ _ two.ensures.count two.ensures.table,
-      one.auto.table ∙ old.2,
-      two.auto.table ∙ old.3,
-    )
-
-pub shape_of-table : goal.shape_of-table
-shape_of-table c = c.loop-at.invariant.2
-
-pub shape_of-other : goal.shape_of-other
-shape_of-other c = c.loop-at.invariant.3
-
-pub returns : goal.returns
-returns c = (c.loop-at.invariant.0, c.loop-at.invariant.1)
+pub loop-x-preserved : goal.loop-x-preserved
+loop-x-preserved c =
+    let old = c.loop-x.invariant in
+    let steps = c.in-Some.ensures.steps in
+    let x = first_part _ _ _ _ (sym steps.0 ∙ old.first_ahead) in
+    let y = first_part _ _ _ _ (sym steps.1 ∙ old.second_ahead) in
+    record {
+      first_stands = rw c.past-one.ensures.at (stand_on _ _ _ _ old.first_stands _ _ x _ _ c.past-one.ensures.count c.past-one.ensures.table);
+      second_stands = rw c.past-two.ensures.at (stand_on _ _ _ _ old.second_stands _ _ y _ _ c.past-two.ensures.count c.past-two.ensures.table);
+      first_ahead = rw c.past-one.ensures.at x.after;
+      second_ahead = rw c.past-two.ensures.at y.after;
+      can = search rules;
+      finite = search rules;
+    }

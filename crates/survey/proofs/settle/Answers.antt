@@ -9,19 +9,6 @@ use Rattle.survey.proofs.settle.Goals.{then-is_measured, else-is_measured}
 pub loop-i-init : goal.loop-i-init
 loop-i-init c = settle_start _ _ _ _ c.requires
 
-pub overflow_mul-count : goal.overflow_mul-count
-overflow_mul-count c = omega (arith, c.requires.room.fits, c.well_formed.1.0.0)
-
-pub offset_bounds-out-i : goal.offset_bounds-out-i
-offset_bounds-out-i c =
-    let more : c.loop-i.i < 2 * c.args.count = omega arith in
-    omega (arith, more, c.requires.room.fits, c.well_formed.1.0.1)
-
-pub bounds-out-i : goal.bounds-out-i
-bounds-out-i c =
-    let more : c.loop-i.i < 2 * c.args.count = omega arith in
-    omega (arith, more, c.requires.room.fits, c.loop-i.invariant.long)
-
 pub is_measured-requires : goal.is_measured-requires
 is_measured-requires c = settle_table _ _ _ _ c.requires _ _ c.loop-i.invariant
 
@@ -29,26 +16,6 @@ pub overflow_sub-out : goal.overflow_sub-out
 overflow_sub-out c =
     let more : c.loop-i.i < 2 * c.args.count = omega arith in
     omega (arith, settle_enough _ _ _ _ c.requires _ _ c.loop-i.invariant more (sym c.is_measured.ensures ∙ c.if-is_measured.true))
-
-pub offset_bounds-out-i-then-is_measured : goal.offset_bounds-out-i-then-is_measured
-offset_bounds-out-i-then-is_measured c =
-    let more : c.loop-i.i < 2 * c.args.count = omega arith in
-    omega (arith, more, c.requires.room.fits, c.well_formed.1.0.1)
-
-pub bounds-out-i-then-is_measured : goal.bounds-out-i-then-is_measured
-bounds-out-i-then-is_measured c =
-    let more : c.loop-i.i < 2 * c.args.count = omega arith in
-    omega (arith, more, c.requires.room.fits, c.loop-i.invariant.long)
-
-pub overflow_add-i : goal.overflow_add-i
-overflow_add-i c =
-    let more : c.loop-i.i < 2 * c.args.count = omega arith in
-    omega (arith, more, c.requires.room.fits, c.well_formed.1.0.0)
-
-pub loop-i-smaller : goal.loop-i-smaller
-loop-i-smaller c =
-    let more : c.loop-i.i < 2 * c.args.count = omega arith in
-    omega (arith, more)
 
 pub loop-i-preserved : goal.loop-i-preserved
 loop-i-preserved c =
@@ -58,9 +25,6 @@ loop-i-preserved c =
       | then-is_measured w ↦ w.out-is ∙ settle_back _ _ _ _ c.requires _ _ c.loop-i.invariant more (sym c.is_measured.ensures ∙ w.if-is_measured.true)
       | else-is_measured w ↦ w.out-is ∙ settle_left _ _ _ _ c.requires _ _ c.loop-i.invariant more (sym c.is_measured.ensures ∙ w.if-is_measured.false)
     ])
-
-pub shape_of-out : goal.shape_of-out
-shape_of-out c = c.loop-i.invariant.long
 
 pub returns : goal.returns
 returns c = settle_end _ _ _ _ c.requires _ _ c.loop-i.invariant (omega arith)

