@@ -10,12 +10,12 @@ use Rattle.refusal.specs.Table.{setting}
 use Rattle.refusal.specs.Answer.{unless}
 use Rattle.block.specs.Reading.{rate_max, unavailable}
 use Rattle.bursts.specs.declared.Sums.{Sums}
-use Rattle.bursts.specs.declared.FiguresRead.TheVariants.{Accepted, Refused}
 use Rattle.bursts.specs.Sums.{sums_sound}
 use Rattle.bursts.specs.Figures.{measure_max, over_range, rate_of, ranged, mean_duration, duration_variance, mean_of, variance_of, figures_of, measure_of}
 use Rattle.bursts.specs.Laws.{FigureSent, Right, FiguresRight, SoundUncut}
 use Rattle.bursts.proofs.Soundness.{sound_of}
 use Rattle.bursts.proofs.Cases.{no_rate, some_rate, rate_small, over_range_lem, in_range_lem, no_mean, some_mean, no_variance, some_variance}
+use Rattle.std.specs.Prelude.{Ok, Err}
 
 sent : (figure most : ℕ) (denominator : ℕ) → most ≤ over_range → (denominator ≡ 0 → unavailable ≡ figure) → ((denominator ≡ 0 → ⊥) → figure ≤ most) → FigureSent figure most (denominator ≡ 0)
 sent figure most denominator small none some = go (ℕ_discrete denominator 0)
@@ -65,7 +65,7 @@ pub figures_right : FiguresRight
 unfolding measure_of
 figures_right s f h = go (sums_sound s) refl h
   where
-    go : (b : Bool) → sums_sound s ≡ b → unless b (Refused setting) (Accepted (figures_of s)) ≡ Accepted f → Right s f
+    go : (b : Bool) → sums_sound s ≡ b → unless b (Err setting) (Ok (figures_of s)) ≡ Ok f → Right s f
     go true e a = let same : figures_of s ≡ f = cc in rw (← same) (right s e)
     go false e a = let z : ◌≡◌ {A = ℕ} 0 1 = cc in absurd (omega arith)
 

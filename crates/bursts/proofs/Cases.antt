@@ -1,16 +1,15 @@
 -- The cases of a figure: unavailable, over range, or the number; and how large a rate is. Assumes nothing.
 use Prim.Native.Nat.{ℕ, ◌*◌, ◌/◌, ◌<◌, ◌≤◌}
 use mathlib.Core.Path.{◌≡◌}
-use mathlib.Core.Bool.{true, false}
+use mathlib.Core.Bool.{true}
 use native.Mathlib.Nat.{mul-le-mul_right, div-le_of_le-mul}
 use borrow.Author.Tests.{le-leb, lt-leb, eq-eqb, ne_eqb}
-use Rattle.refusal.specs.Table.{setting}
 use Rattle.block.specs.Reading.{rate_max, unavailable}
 use Rattle.bursts.specs.declared.Sums.{Sums}
 use Rattle.bursts.specs.declared.Figures.{Figures}
-use Rattle.bursts.specs.declared.FiguresRead.TheVariants.{Accepted, Refused}
 use Rattle.bursts.specs.Sums.{sums_sound}
 use Rattle.bursts.specs.Figures.{measure_max, over_range, rate_of, ranged, mean_duration, duration_variance, mean_of, variance_of, figures_of, measure_of}
+use Rattle.std.specs.Prelude.{Ok}
 
 pub no_rate : (events packets : ℕ) → packets ≡ 0 → unavailable ≡ rate_of events packets
 unfolding rate_of
@@ -51,11 +50,7 @@ module _ (s : Sums) where
     unfolding variance_of
     some_variance = rw (ne_eqb s.bursts 0 some)
 
--- sums that are sound, and sums that are not
-pub refused : (s : Sums) → sums_sound s ≡ false → Refused setting ≡ measure_of s
-unfolding measure_of
-refused s h = rw h
-
-pub accepted : (s : Sums) (f : Figures) → sums_sound s ≡ true → f ≡ figures_of s → Accepted f ≡ measure_of s
+-- sums that are sound
+pub accepted : (s : Sums) (f : Figures) → sums_sound s ≡ true → f ≡ figures_of s → Ok f ≡ measure_of s
 unfolding measure_of
 accepted s f h e = rw (h, e)

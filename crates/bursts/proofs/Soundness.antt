@@ -1,18 +1,18 @@
 -- What sound sums have, line by line of document 01's list with ticket 3's last line, the tests for it, and why no product of
 -- them wraps: `SoundNoBursts` and `SoundFits` of specs/Laws.antt. Assumes nothing.
-use Prim.Native.Nat.{ℕ, zero, suc, ◌-◌, ◌*◌, ◌/◌, ◌<◌, ◌≤◌}
+use Prim.Native.Nat.{ℕ, zero, suc, ◌-◌, ◌*◌, ◌/◌, ◌≤◌}
 use mathlib.Core.Path.{◌≡◌, refl, sym, ◌∙◌}
 use mathlib.Core.Bool.{true, false, ◌&&◌, and-true}
 use native.Mathlib.Omega.{arith}
 use native.Mathlib.Nat.{mul-le-mul, zero-mul, suc-mul}
-use borrow.Author.Tests.{leb-true, le-leb, lt-leb}
+use borrow.Author.Tests.{leb-true, le-leb}
 use lib.Dec.{leb}
 use Rattle.refusal.proofs.Tests.{and_left, and_right, fails, same_leb, six}
 use Rattle.trace.specs.Trace.{trace_max}
 use Rattle.bursts.specs.declared.Sums.{Sums}
 use Rattle.bursts.specs.Groups.{square}
 use Rattle.bursts.specs.Sums.{bursts_max, durations_max, counts_sound, durations_sound, sums_sound}
-use Rattle.bursts.specs.Steps.{Spread}
+use Rattle.bursts.specs.Steps.{Rated, Few, Spread}
 use Rattle.bursts.specs.Laws.{SoundNoBursts, ProductsFit, SoundFits}
 
 -- "E ≤ 65,536, Eb ≤ E, Lb ≤ Eb, Lb ≤ L, L − Lb ≤ E − Eb, 2n ≤ Eb"
@@ -65,19 +65,9 @@ module _ (s : Sums) where
       = same_leb s.bursts (s.burst_packets / 2) (2 * s.bursts) s.burst_packets (λ h. omega arith) (λ h. omega arith) in
       rw (half, le-leb s.burst_packets s.packets inside, le-leb s.burst_events s.events counted) (simp and-true)
 
-  -- the cases of the durations' test
-  pub too_long : durations_max < s.durations → false ≡ durations_sound s
+  spread_tested : s.durations ≤ durations_max → s.squares ≤ square s.durations → leb (square s.durations) (s.bursts * s.squares) ≡ durations_sound s
   unfolding durations_sound
-  too_long h = rw (lt-leb s.durations durations_max h)
-
-  module _ (most : s.durations ≤ durations_max) where
-    pub too_square : square s.durations < s.squares → false ≡ durations_sound s
-    unfolding durations_sound
-    too_square h = rw (le-leb s.durations durations_max most, lt-leb s.squares (square s.durations) h)
-
-    pub spread_tested : s.squares ≤ square s.durations → leb (square s.durations) (s.bursts * s.squares) ≡ durations_sound s
-    unfolding durations_sound
-    spread_tested squares = rw (le-leb s.durations durations_max most, le-leb s.squares (square s.durations) squares)
+  spread_tested most squares = rw (le-leb s.durations durations_max most, le-leb s.squares (square s.durations) squares)
 
   pub durations_of : durations_sound s ≡ true → Durations s
   unfolding durations_sound
@@ -131,3 +121,27 @@ spread_fits s p = products_fit s p.few.bursts p.durations p.squares
 
 pub sound_fits : SoundFits
 sound_fits s h = let p = sound_of s h in products_fit s (omega arith) p.1.most p.1.squares
+
+-- what the private functions ask for is so of sound sums
+pub few : (s : Sums) → counts_sound s ≡ true → Few s
+few s h = let c = counts_of s h in record { bursts = omega arith }
+
+pub record Measurable (s : Sums) : Type 0 where
+  pub in_bursts : Rated s.burst_events s.burst_packets
+  pub events : s.burst_events ≤ s.events
+  pub packets : s.burst_packets ≤ s.packets
+  pub in_gaps : Rated (s.events - s.burst_events) (s.packets - s.burst_packets)
+  pub spread : Spread s
+
+pub measurable : (s : Sums) → sums_sound s ≡ true → Measurable s
+measurable s h =
+    let p = sound_of s h in
+    let c = p.0 in
+    let d = p.1 in
+    record {
+      in_bursts = record { fewer = c.dense; most = omega arith };
+      events = c.counted;
+      packets = c.inside;
+      in_gaps = record { fewer = c.gaps; most = omega arith };
+      spread = record { few = record { bursts = omega arith }; durations = d.most; squares = d.squares; least = d.spread };
+    }

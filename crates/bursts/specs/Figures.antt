@@ -1,15 +1,14 @@
 -- The figures of the seven sums, as blocks 17 and 18 hold them: document 01, "The trace and its figures", and document 02,
 -- ticket 3, for the variance.
-use Rattle.std.specs.Prelude.{ℕ, ◌-◌, ◌*◌, ◌/◌, cond, eqb, leb}
+use Rattle.std.specs.Prelude.{ℕ, ◌-◌, ◌*◌, ◌/◌, cond, eqb, leb, Result, Ok, Err}
 use Rattle.refusal.specs.Table.{setting}
 use Rattle.refusal.specs.Answer.{unless}
 use Rattle.block.specs.Reading.{rate_max, unavailable}
 use Rattle.bursts.specs.declared.Sums.{Sums}
 use Rattle.bursts.specs.declared.Figures.{Figures}
-use Rattle.bursts.specs.declared.FiguresRead.{FiguresRead}
-use Rattle.bursts.specs.declared.FiguresRead.TheVariants.{Accepted, Refused}
 use Rattle.bursts.specs.Groups.{square}
 use Rattle.bursts.specs.Sums.{sums_sound}
+use Rattle.refusal.specs.declared.Refusal.{Refusal}
 
 abbrev pub measure_max : ℕ
 measure_max = 65_533
@@ -50,5 +49,5 @@ figures_of s =
     }
 
 -- sums that are not sound are refused as a tally that is not
-unfoldable pub measure_of : Sums → FiguresRead
-measure_of s = unless (sums_sound s) (Refused setting) (Accepted (figures_of s))
+unfoldable pub measure_of : Sums → Result Figures Refusal
+measure_of s = unless (sums_sound s) (Err setting) (Ok (figures_of s))

@@ -1,11 +1,10 @@
 -- What callers may lean on, as statements about the definitions that the calls promise. Proved in proofs/.
-use Rattle.std.specs.Prelude.{ℕ, ◌*◌, ◌^◌, ◌<◌, ◌≤◌, ◌≡◌, Bool, true, ◌↔◌, ◌⊎◌, List, length}
+use Rattle.std.specs.Prelude.{ℕ, ◌*◌, ◌^◌, ◌<◌, ◌≤◌, ◌≡◌, Bool, true, ◌↔◌, ◌⊎◌, List, length, Ok}
 use Rattle.settings.specs.Ranges.{burst_in_range}
 use Rattle.trace.specs.Trace.{trace_max}
 use Rattle.block.specs.Reading.{rate_max, unavailable}
 use Rattle.bursts.specs.declared.Sums.{Sums}
 use Rattle.bursts.specs.declared.Figures.{Figures}
-use Rattle.bursts.specs.declared.FiguresRead.TheVariants.{Accepted}
 use Rattle.bursts.specs.Groups.{square}
 use Rattle.bursts.specs.Sums.{sums_of, bursts_max, durations_max, sums_sound}
 use Rattle.bursts.specs.Figures.{over_range, measure_of}
@@ -31,7 +30,7 @@ pub record Right (s : Sums) (f : Figures) : Type 0 where
 
 -- A figure that could be measured is never sent as unavailable.
 abbrev pub FiguresRight : Type 0
-FiguresRight = (s : Sums) (f : Figures) → measure_of s ≡ Accepted f → Right s f
+FiguresRight = (s : Sums) (f : Figures) → measure_of s ≡ Ok f → Right s f
 
 -- No subtraction in a formula is cut off at 0: L − Lb, E − Eb and n × Q − S × S.
 pub record Uncut (s : Sums) : Type 0 where

@@ -14,7 +14,7 @@ use refusal::Refusal;
 // What is summed over the packets so far: E, L, Eb, Lb, n, S and Q of document 01, in its order.
 // C: nuvaskoe_sums
 #[repr(C)]
-#[derive(Clone, Copy)]
+#[derive(Clone, Copy, Default)]
 pub struct Sums {
     pub packets: u64, // all packets
     pub events: u64, // those that are counted
@@ -36,13 +36,6 @@ pub struct Figures {
     pub burst_variance: u16, // square milliseconds, divided by the number of bursts (RFC 7004: by one less); the same two marks
 }
 
-// What sums give: their figures, or why none.
-#[derive(Clone, Copy)]
-pub enum FiguresRead {
-    Accepted(Figures),
-    Refused(Refusal),
-}
-
 // The most packets, trace::TRACE_MAX as a sum has it.
 pub const PACKETS_MAX: u64 = trace::TRACE_MAX as u64;
 
@@ -59,23 +52,22 @@ pub const MEASURE_MAX: u64 = 65_533;
 pub const OVER_RANGE: u16 = 65_534;
 
 // Whether sums can be those of a trace, as far as document 01's list says, with ticket 3's last line.
+#[tactic(auto, using(crate::proofs::Soundness::few), unfolding(crate::specs::Sums::sums_sound))]
 pub fn sound(s: Sums) -> bool
     ensures { result ≡ sums_sound s }
 {
-    if !counts_sound(s) {
-        return false;
-    }
-    durations_sound(s)
+    counts_sound(s) && durations_sound(s)
 }
 
 // The figures of sums.
-pub fn measure(s: Sums) -> FiguresRead
+#[tactic(auto, using(crate::proofs::Soundness::measurable), unfolding(crate::specs::Figures::measure_of, crate::specs::Figures::figures_of))]
+pub fn measure(s: Sums) -> Result<Figures, Refusal>
     ensures { result ≡ measure_of s }
 {
     if !sound(s) {
-        return FiguresRead::Refused(refusal::SETTING);
+        return Err(Refusal::Setting);
     }
-    FiguresRead::Accepted(Figures {
+    Ok(Figures {
         burst_rate: rate(s.burst_events, s.burst_packets),
         gap_rate: rate(s.events - s.burst_events, s.packets - s.burst_packets),
         burst_mean: mean(s),
@@ -84,6 +76,7 @@ pub fn measure(s: Sums) -> FiguresRead
 }
 
 // Of the list's lines those on packets, events and bursts.
+#[tactic(auto, using(crate::proofs::Soundness::counts_tested, crate::proofs::Soundness::counts_unsound))]
 fn counts_sound(s: Sums) -> bool
     ensures { result ≡ counts_sound s }
 {
@@ -100,6 +93,7 @@ fn counts_sound(s: Sums) -> bool
 }
 
 // Of the list's lines those on durations. Each product is of numbers that are bounded by then.
+#[tactic(auto, using(crate::proofs::Soundness::square_small, crate::proofs::Soundness::products_fit), unfolding(crate::specs::Sums::durations_sound))]
 fn durations_sound(s: Sums) -> bool
     requires { Few s }
     ensures { result ≡ durations_sound s }
@@ -115,6 +109,7 @@ fn durations_sound(s: Sums) -> bool
 }
 
 // Events for each packet, in parts of the highest rate.
+#[tactic(auto, using(crate::proofs::Cases::rate_small), unfolding(crate::specs::Figures::rate_of))]
 fn rate(events: u64, packets: u64) -> u16
     requires { Rated events packets }
     ensures { result ≡ rate_of events packets }
@@ -126,6 +121,7 @@ fn rate(events: u64, packets: u64) -> u16
 }
 
 // A mean or variance as it is sent.
+#[tactic(auto, unfolding(crate::specs::Figures::ranged))]
 fn in_range(measure: u64) -> u16
     ensures { result ≡ ranged measure }
 {
@@ -136,6 +132,7 @@ fn in_range(measure: u64) -> u16
 }
 
 // The mean of the bursts' durations.
+#[tactic(auto, unfolding(crate::specs::Figures::mean_of))]
 fn mean(s: Sums) -> u16
     ensures { result ≡ mean_of s }
 {
@@ -146,6 +143,7 @@ fn mean(s: Sums) -> u16
 }
 
 // The variance of the bursts' durations.
+#[tactic(auto, using(crate::proofs::Soundness::spread_fits), unfolding(crate::specs::Figures::variance_of))]
 fn variance(s: Sums) -> u16
     requires { Spread s }
     ensures { result ≡ variance_of s }

@@ -14,13 +14,9 @@ use Rattle.block.specs.declared.DiscardSummary.{DiscardSummary}
 use Rattle.block.specs.declared.Block.TheVariants.{Loss as Block-as-Loss, Discard as Block-as-Discard}
 use Rattle.trace.specs.declared.Event.{Event}
 use Rattle.trace.specs.declared.Event.TheVariants.{Lost, Discarded, Either}
-use Rattle.refusal.specs.declared.Judged.{Judged}
-use Rattle.refusal.specs.declared.Judged.TheVariants.{Accepted as Judged-as-Accepted, Refused as Judged-as-Refused}
 use Rattle.trace.specs.Trace.{counts_as, judged}
 use Rattle.bursts.specs.declared.Sums.{Sums}
 use Rattle.bursts.specs.declared.Figures.{Figures}
-use Rattle.bursts.specs.declared.FiguresRead.{FiguresRead}
-use Rattle.bursts.specs.declared.FiguresRead.TheVariants.{Accepted, Refused}
 use Rattle.bursts.specs.Sums.{sums_of}
 use Rattle.encode.specs.Laws.{Half}
 use Rattle.encode.proofs.ReadBack.{read_back}
@@ -35,6 +31,9 @@ use Rattle.tally.proofs.Reached.{closes_right}
 use Rattle.figures.specs.declared.Summary.TheVariants.{Loss, Discard}
 use Rattle.figures.specs.Figures.{figures_in, loss_block, discard_block, summary_of}
 use Rattle.figures.specs.Laws.{TraceRight, KindRight, BlocksWrite, TraceWrites, TallyWrites, SummaryRight, TraceSummary, TallySummary}
+use Rattle.std.specs.Prelude.{Result, Ok, Err}
+use Rattle.refusal.specs.Answer.{Judged}
+use Rattle.refusal.specs.declared.Refusal.{Refusal}
 
 -- rates that are right are good, and every figure fits 16 bits
 good : (r : ℕ) → (r ≤ rate_max) ⊎ (r ≡ unavailable) → rate_good r ≡ true
@@ -67,11 +66,11 @@ trace_right gmin spacing event s f h = go (burst_in_range gmin spacing) (judged 
     r = sums_of (counts_as event) gmin spacing s
 
     go : (b : Bool) (j : Judged) → burst_in_range gmin spacing ≡ b → judged s ≡ j →
-        unless b (Refused setting) (if_accepted j Refused (Accepted (figures_of r))) ≡ Accepted f → Right r f × Uncut r
-    go true Judged-as-Accepted range j e =
+        unless b (Err setting) (if_accepted j Err (Ok (figures_of r))) ≡ Ok f → Right r f × Uncut r
+    go true (Ok _) range j e =
         let sound = sums_sound_lem (counts_as event) gmin spacing s range (accepted_trace s j).most in
         (figures_right r f (sym (accepted r (figures_of r) sound refl) ∙ e), sound_uncut r sound)
-    go true (Judged-as-Refused why) range j e = let z : ◌≡◌ {A = ℕ} 0 1 = cc in absurd (omega arith)
+    go true (Err why) range j e = let z : ◌≡◌ {A = ℕ} 0 1 = cc in absurd (omega arith)
     go false j range e a = let z : ◌≡◌ {A = ℕ} 0 1 = cc in absurd (omega arith)
 
 pub trace_writes : TraceWrites
@@ -81,24 +80,24 @@ pub tally_writes : TallyWrites
 tally_writes t f h = writes (counted t) f (closes_right t f h).0
 
 -- what a measured block was made from
-record From {B : Type 0} (m : FiguresRead) (make : Figures → B) (b : B) : Type 0 where
+record From {B : Type 0} (m : Result Figures Refusal) (make : Figures → B) (b : B) : Type 0 where
   pub figures : Figures
-  pub measured : m ≡ Accepted figures
+  pub measured : m ≡ Ok figures
   pub block : make figures ≡ b
 
 module _ (source flag : ℕ) where
-  from_lost : (event : Event) (m : FiguresRead) (l : LossSummary) → summary_of event source flag m ≡ Loss l → (event ≡ Lost) × From m (λ f. loss_block f source flag) l
-  from_lost Lost (Accepted f) l e = (refl, record { figures = f; measured = refl; block = cc })
-  from_lost Lost (Refused r) l e = let z : ◌≡◌ {A = ℕ} 0 1 = cc in absurd (omega arith)
-  from_lost Discarded (Accepted f) l e = let z : ◌≡◌ {A = ℕ} 0 1 = cc in absurd (omega arith)
-  from_lost Discarded (Refused r) l e = let z : ◌≡◌ {A = ℕ} 0 1 = cc in absurd (omega arith)
+  from_lost : (event : Event) (m : Result Figures Refusal) (l : LossSummary) → summary_of event source flag m ≡ Ok (Loss l) → (event ≡ Lost) × From m (λ f. loss_block f source flag) l
+  from_lost Lost (Ok f) l e = (refl, record { figures = f; measured = refl; block = cc })
+  from_lost Lost (Err r) l e = let z : ◌≡◌ {A = ℕ} 0 1 = cc in absurd (omega arith)
+  from_lost Discarded (Ok f) l e = let z : ◌≡◌ {A = ℕ} 0 1 = cc in absurd (omega arith)
+  from_lost Discarded (Err r) l e = let z : ◌≡◌ {A = ℕ} 0 1 = cc in absurd (omega arith)
   from_lost Either m l e = let z : ◌≡◌ {A = ℕ} 0 1 = cc in absurd (omega arith)
 
-  from_discarded : (event : Event) (m : FiguresRead) (d : DiscardSummary) → summary_of event source flag m ≡ Discard d → (event ≡ Discarded) × From m (λ f. discard_block f source flag) d
-  from_discarded Discarded (Accepted f) d e = (refl, record { figures = f; measured = refl; block = cc })
-  from_discarded Discarded (Refused r) d e = let z : ◌≡◌ {A = ℕ} 0 1 = cc in absurd (omega arith)
-  from_discarded Lost (Accepted f) d e = let z : ◌≡◌ {A = ℕ} 0 1 = cc in absurd (omega arith)
-  from_discarded Lost (Refused r) d e = let z : ◌≡◌ {A = ℕ} 0 1 = cc in absurd (omega arith)
+  from_discarded : (event : Event) (m : Result Figures Refusal) (d : DiscardSummary) → summary_of event source flag m ≡ Ok (Discard d) → (event ≡ Discarded) × From m (λ f. discard_block f source flag) d
+  from_discarded Discarded (Ok f) d e = (refl, record { figures = f; measured = refl; block = cc })
+  from_discarded Discarded (Err r) d e = let z : ◌≡◌ {A = ℕ} 0 1 = cc in absurd (omega arith)
+  from_discarded Lost (Ok f) d e = let z : ◌≡◌ {A = ℕ} 0 1 = cc in absurd (omega arith)
+  from_discarded Lost (Err r) d e = let z : ◌≡◌ {A = ℕ} 0 1 = cc in absurd (omega arith)
   from_discarded Either m d e = let z : ◌≡◌ {A = ℕ} 0 1 = cc in absurd (omega arith)
 
 pub kind_right : KindRight
@@ -109,7 +108,7 @@ kind_right event source flag m = (
       rw (← k.1.block) (record { discarded = k.0; figures = k.1.figures; measured = k.1.measured; as_given = (refl, refl); rates = (refl, refl) }),
 )
 
-summary_right : (r : Sums) (event : Event) (source flag : ℕ) (m : FiguresRead) → ((f : Figures) → m ≡ Accepted f → Right r f) → SummaryRight r source flag (summary_of event source flag m)
+summary_right : (r : Sums) (event : Event) (source flag : ℕ) (m : Result Figures Refusal) → ((f : Figures) → m ≡ Ok f → Right r f) → SummaryRight r source flag (summary_of event source flag m)
 summary_right r event source flag m right =
     record {
       loss_rates = λ l e. let k = (from_lost source flag event m l e).1 in rw (← k.block) (right k.figures k.measured).rates;

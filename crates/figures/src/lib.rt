@@ -9,31 +9,34 @@ ghost use Rattle.tally.specs.Tally.{close_of};
 ghost use Rattle.figures.specs.Figures.{figures_in, loss_block, discard_block, summary_of};
 
 use block::{DiscardSummary, LossSummary};
-use bursts::{Figures, FiguresRead};
+use bursts::Figures;
 use refusal::Refusal;
-use tally::{Opened, Tally};
+use tally::Tally;
 use trace::Event;
 
-// A block that was measured, of the kind of its event, or why there is none.
+// A block that was measured, of the kind of its event.
 #[derive(Clone, Copy)]
 pub enum Summary {
     Loss(LossSummary),
     Discard(DiscardSummary),
-    Refused(Refusal),
 }
 
 // The figures of a trace, with the events of this kind.
-pub fn of_trace(trace: &[u8], gmin: u32, spacing: u32, event: Event) -> FiguresRead
+#[tactic(auto, using(crate::proofs::Whole::of_closed, crate::proofs::Whole::of_refused))]
+pub fn of_trace(trace: &[u8], gmin: u32, spacing: u32, event: Event) -> Result<Figures, Refusal>
     ensures { result ≡ figures_in gmin spacing event trace.now }
 {
-    match tally::of_trace(trace, gmin, spacing, event) {
-        Opened::Accepted(tally) => tally.close(),
-        Opened::Refused(why) => FiguresRead::Refused(why),
-    }
+    tally::of_trace(trace, gmin, spacing, event)?.close()
 }
 
 // Block 17 of a trace: the figures of its lost packets.
-pub fn loss_of_trace(trace: &[u8], gmin: u32, spacing: u32, source: u32, flag: u8) -> Summary
+pub fn loss_of_trace(
+    trace: &[u8],
+    gmin: u32,
+    spacing: u32,
+    source: u32,
+    flag: u8,
+) -> Result<Summary, Refusal>
     ensures { result ≡ summary_of Lost source flag (figures_in gmin spacing Lost trace.now) }
 {
     let lost = of_trace(trace, gmin, spacing, Event::Lost);
@@ -41,7 +44,14 @@ pub fn loss_of_trace(trace: &[u8], gmin: u32, spacing: u32, source: u32, flag: u
 }
 
 // Block 18 of a trace: the figures of its discarded packets.
-pub fn discard_of_trace(trace: &[u8], gmin: u32, spacing: u32, source: u32, flag: u8) -> Summary
+// A call of its own: one for both would take the event too, a sixth parameter, of which one value has no block.
+pub fn discard_of_trace(
+    trace: &[u8],
+    gmin: u32,
+    spacing: u32,
+    source: u32,
+    flag: u8,
+) -> Result<Summary, Refusal>
     ensures { result ≡ summary_of Discarded source flag (figures_in gmin spacing Discarded trace.now) }
 {
     let discarded = of_trace(trace, gmin, spacing, Event::Discarded);
@@ -49,39 +59,38 @@ pub fn discard_of_trace(trace: &[u8], gmin: u32, spacing: u32, source: u32, flag
 }
 
 // The block of a tally: 17 of one that counts lost packets, 18 of one that counts discarded ones, none of one that counts either.
-pub fn of_tally(tally: Tally, source: u32, flag: u8) -> Summary
+pub fn of_tally(tally: Tally, source: u32, flag: u8) -> Result<Summary, Refusal>
     ensures { result ≡ summary_of tally.event source flag (close_of tally) }
 {
-    let event = tally.event;
-    summary_of(event, source, flag, tally.close())
+    summary_of(tally.event, source, flag, tally.close())
 }
 
 // The block that an event's figures go into.
-fn summary_of(event: Event, source: u32, flag: u8, measured: FiguresRead) -> Summary
+fn summary_of(
+    event: Event,
+    source: u32,
+    flag: u8,
+    measured: Result<Figures, Refusal>,
+) -> Result<Summary, Refusal>
     ensures { result ≡ summary_of event source flag measured }
 {
     match event {
-        Event::Lost => match measured {
-            FiguresRead::Accepted(figures) => Summary::Loss(loss_block(figures, source, flag)),
-            FiguresRead::Refused(why) => Summary::Refused(why),
-        },
-        Event::Discarded => match measured {
-            FiguresRead::Accepted(figures) => {
-                Summary::Discard(discard_block(figures, source, flag))
-            }
-            FiguresRead::Refused(why) => Summary::Refused(why),
-        },
-        Event::Either => Summary::Refused(refusal::SETTING),
+        Event::Lost => measured.map(|figures| Summary::Loss(loss_block(figures, source, flag))),
+        Event::Discarded => {
+            measured.map(|figures| Summary::Discard(discard_block(figures, source, flag)))
+        }
+        Event::Either => Err(Refusal::Setting),
     }
 }
 
-// Block 17 with these figures, wherever they come from.
+// Block 17 with these figures, wherever they come from. One call a block: the two are structs of the C interface with fields of
+// their own.
 pub fn loss_block(lost: Figures, source: u32, flag: u8) -> LossSummary
     ensures { result ≡ loss_block lost source flag }
 {
     LossSummary {
-        flag: flag,
-        source: source,
+        flag,
+        source,
         burst_rate: lost.burst_rate,
         gap_rate: lost.gap_rate,
         burst_mean: lost.burst_mean,
@@ -94,8 +103,8 @@ pub fn discard_block(discarded: Figures, source: u32, flag: u8) -> DiscardSummar
     ensures { result ≡ discard_block discarded source flag }
 {
     DiscardSummary {
-        flag: flag,
-        source: source,
+        flag,
+        source,
         burst_rate: discarded.burst_rate,
         gap_rate: discarded.gap_rate,
     }

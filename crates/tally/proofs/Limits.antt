@@ -19,7 +19,7 @@ use Rattle.bursts.proofs.Soundness.{Counts, Durations, counts_of, durations_of, 
 use Rattle.tally.specs.declared.Stretch.{Stretch}
 use Rattle.tally.specs.declared.Tally.{Tally}
 use Rattle.tally.specs.Tally.{with_burst, counted_in, counted, open_within, sound}
-use Rattle.tally.specs.Steps.{Bounded, sums_within, bounded}
+use Rattle.tally.specs.Steps.{Room, Bounded, sums_within, bounded}
 
 -- the cases of counting a stretch in
 pub is_burst_lem : (spacing : ℕ) (o : Stretch) (s : Sums) → burst_min ≤ o.events → with_burst spacing o s ≡ counted_in spacing o s
@@ -157,3 +157,10 @@ module _ (t : Tally) where
         events = omega arith;
         since = omega arith;
       }
+
+  -- room for one more burst, and for one more packet
+  pub count_room : burst_in_range t.gmin t.spacing ≡ true → bounded t ≡ true → Room t.spacing t.stretch t.sums
+  count_room r h = (bounded_of r h).room
+
+  pub step_room : sound t ≡ true → Bounded t
+  step_room h = bounded_of (sound_of h).ranges (sound_bounded h)

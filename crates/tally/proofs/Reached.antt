@@ -13,7 +13,6 @@ use Rattle.trace.specs.declared.Event.{Event}
 use Rattle.trace.specs.Trace.{packet_max, trace_max, counts_as}
 use Rattle.trace.specs.Laws.{IsTrace}
 use Rattle.trace.proofs.Judging.{accepted_trace}
-use Rattle.bursts.specs.declared.FiguresRead.TheVariants.{Accepted as FiguresRead-as-Accepted, Refused as FiguresRead-as-Refused}
 use Rattle.bursts.specs.Groups.{events_from, groups, bursts_of, total}
 use Rattle.bursts.specs.Sums.{sums_over, sums_of, counts_sound, durations_sound, sums_sound}
 use Rattle.bursts.specs.Figures.{figures_of, rate_of, mean_of, variance_of}
@@ -21,13 +20,12 @@ use Rattle.bursts.proofs.Availability.{figures_right, sound_uncut}
 use Rattle.bursts.proofs.Soundness.{sound_fits}
 use Rattle.bursts.proofs.TraceSums.{sums_sound_lem}
 use Rattle.tally.specs.declared.Tally.{Tally}
-use Rattle.tally.specs.declared.Opened.TheVariants.{Accepted, Refused}
-use Rattle.tally.specs.declared.Answer.TheVariants.{Accepted as Answer-as-Accepted}
 use Rattle.tally.specs.Tally.{fresh, open_of, counted, sound, step_of, take_one, close_of, take_each}
 use Rattle.tally.specs.Laws.{TakesAll, SoundThroughout, CountsAll, ClosesWithFigures, ClosesEmpty, TallyFits, ClosesRight}
 use Rattle.tally.proofs.Limits.{sound_of, sound_bounded, tested}
 use Rattle.tally.proofs.Turns.{taken, closes}
 use Rattle.tally.proofs.Holding.{Holds, holds_fresh, holds_packets, holds_set, holds_counted, holds_step}
+use Rattle.std.specs.Prelude.{Ok, Err}
 
 -- packets that are all good
 abbrev pub Good : List ℕ → Type 0
@@ -44,7 +42,7 @@ module _ (gmin spacing : ℕ) (event : Event) (range : burst_in_range gmin spaci
       rw (holds_counted gmin spacing event s t h, set.gmin_is, set.spacing_is, range, and_left (counts_sound r) (durations_sound r) all, set.within, and_right (counts_sound r) (durations_sound r) all)
 
   pub holds_take : (s : List ℕ) (t : Tally) (packet : ℕ) → Holds gmin spacing event s t → length s < trace_max → packet ≤ packet_max →
-      record { tally = step_of t packet; answer = Answer-as-Accepted } ≡ take_one t packet
+      record { tally = step_of t packet; answer = (Ok (tt {0})) } ≡ take_one t packet
   holds_take s t packet h room good =
       let e = holds_packets gmin spacing event s t h in
       taken t packet (holds_sound s t h (omega arith)) (omega arith) (step_of t packet) good refl
@@ -63,10 +61,10 @@ pub record Fresh (gmin spacing : ℕ) (event : Event) (t : Tally) : Type 0 where
   pub ranges : burst_in_range gmin spacing ≡ true
   pub none : t ≡ fresh gmin spacing event
 
-pub opened_fresh : (gmin spacing : ℕ) (event : Event) (t : Tally) → open_of gmin spacing event ≡ Accepted t → Fresh gmin spacing event t
+pub opened_fresh : (gmin spacing : ℕ) (event : Event) (t : Tally) → open_of gmin spacing event ≡ Ok t → Fresh gmin spacing event t
 unfolding open_of
 opened_fresh gmin spacing event t h =
-    let p = passed (burst_in_range gmin spacing) (Refused setting) _ (Accepted t) (λ e. let z : ◌≡◌ {A = ℕ} 0 1 = cc in omega arith) h in
+    let p = passed (burst_in_range gmin spacing) (Err setting) _ (Ok t) (λ e. let z : ◌≡◌ {A = ℕ} 0 1 = cc in omega arith) h in
     record { ranges = p.0; none = cc }
 
 -- the tally after packets that are all good, at most so many
@@ -80,7 +78,7 @@ module _ (gmin spacing : ℕ) (event : Event) (t : Tally) (f : Fresh gmin spacin
   reached_counted : counted (take_each t s) ≡ sums_of (counts_as event) gmin spacing s
   reached_counted = holds_counted gmin spacing event s (take_each t s) reached
 
-  reached_closed : close_of (take_each t s) ≡ FiguresRead-as-Accepted (figures_of (sums_of (counts_as event) gmin spacing s))
+  reached_closed : close_of (take_each t s) ≡ Ok (figures_of (sums_of (counts_as event) gmin spacing s))
   unfolding close_of
   reached_closed = rw (reached_sound, reached_counted)
 
@@ -132,6 +130,6 @@ tally_fits t s = sound_fits (counted t) (sums_same t s ∙ s)
 pub closes_right : ClosesRight
 unfolding close_of
 closes_right t f h =
-    let s = (passed (sound t) (FiguresRead-as-Refused setting) _ (FiguresRead-as-Accepted f) (λ e. let z : ◌≡◌ {A = ℕ} 0 1 = cc in omega arith) h).0 in
+    let s = (passed (sound t) (Err setting) _ (Ok f) (λ e. let z : ◌≡◌ {A = ℕ} 0 1 = cc in omega arith) h).0 in
     let same = sums_same t s in
     (figures_right (counted t) f (closes t same ∙ h), sound_uncut (counted t) (same ∙ s))

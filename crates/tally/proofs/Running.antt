@@ -1,6 +1,6 @@
 -- A tally that takes a whole trace in a loop, and the cases of that call. Assumes nothing.
 use Prim.Native.Nat.{ℕ, ◌+◌, ◌<◌, ◌≤◌}
-use mathlib.Core.Path.{◌≡◌, refl, ap, ◌∙◌}
+use mathlib.Core.Path.{◌≡◌, refl, sym, ap, ◌∙◌}
 use mathlib.Core.Bool.{Bool, true, false}
 use mathlib.Core.List.{List, [], ◌∷◌, ◌++◌}
 use native.Mathlib.Omega.{arith}
@@ -12,18 +12,17 @@ use Rattle.refusal.specs.Answer.{unless, if_accepted}
 use Rattle.refusal.specs.declared.Refusal.{Refusal}
 use Rattle.settings.specs.Ranges.{burst_in_range}
 use Rattle.trace.specs.declared.Event.{Event}
-use Rattle.refusal.specs.declared.Judged.TheVariants.{Accepted as Judged-as-Accepted, Refused as Judged-as-Refused}
 use Rattle.trace.specs.Trace.{judged}
 use Rattle.trace.specs.Laws.{IsTrace}
 use Rattle.trace.proofs.Judging.{accepted_trace}
 use Rattle.tally.specs.declared.Tally.{Tally}
-use Rattle.tally.specs.declared.Opened.TheVariants.{Accepted, Refused}
 use Rattle.tally.specs.declared.Taken.{Taken}
 use Rattle.tally.specs.Tally.{fresh, open_of, step_of, take_one, take_each, of_trace}
 use Rattle.tally.specs.Steps.{Bounded}
 use Rattle.tally.proofs.Limits.{sound_of, sound_bounded, bounded_of}
 use Rattle.tally.proofs.Holding.{Holds}
-use Rattle.tally.proofs.Reached.{Fresh, reached, holds_sound, holds_take, part_most, part_good}
+use Rattle.tally.proofs.Reached.{Fresh, opened_fresh, reached, holds_sound, holds_take, part_most, part_good}
+use Rattle.std.specs.Prelude.{Ok, Err}
 
 -- one packet more
 all_snoc : (t : Tally) (s : List ℕ) (packet : ℕ) → take_each t (s ++ packet ∷ []) ≡ (take_one (take_each t s) packet).tally
@@ -59,31 +58,33 @@ module _ (gmin spacing : ℕ) (s : List ℕ) (first t : Tally) (i : ℕ) (r : Ru
         same = e ∙ ap (λ (x : Taken). x.tally) step ∙ rw (add-one, take-suc s i 0 l, all_snoc first (take i s) (get_or s i 0), r.same);
       }
 
-  pub running_end : length s ≤ i → t ≡ take_each first s
-  running_end l = r.same ∙ rw (take_all i s l)
-
 -- the cases of the call
 module _ (gmin spacing : ℕ) (event : Event) (s : List ℕ) where
-  pub of_range : (r : Refusal) → open_of gmin spacing event ≡ Refused r → Refused setting ≡ of_trace gmin spacing event s
+  pub of_range : (r : Refusal) → open_of gmin spacing event ≡ Err r → Err r ≡ of_trace gmin spacing event s
   unfolding open_of of_trace
   of_range r h = go (burst_in_range gmin spacing) refl h
     where
-      go : (b : Bool) → burst_in_range gmin spacing ≡ b → unless b (Refused setting) (Accepted (fresh gmin spacing event)) ≡ Refused r →
-          Refused setting ≡ unless b (Refused setting) (if_accepted (judged s) Refused (Accepted (take_each (fresh gmin spacing event) s)))
-      go false e a = refl
+      go : (b : Bool) → burst_in_range gmin spacing ≡ b → unless b (Err setting) (Ok (fresh gmin spacing event)) ≡ Err r →
+          Err r ≡ unless b (Err setting) (if_accepted (judged s) Err (Ok (take_each (fresh gmin spacing event) s)))
+      go false e a = sym a
       go true e a = let z : ◌≡◌ {A = ℕ} 0 1 = cc in absurd (omega arith)
 
-  module _ (ranges : burst_in_range gmin spacing ≡ true) where
-    pub of_refused : (r : Refusal) → judged s ≡ Judged-as-Refused r → Refused r ≡ of_trace gmin spacing event s
+  module _ (first : Tally) (opened : open_of gmin spacing event ≡ Ok first) where
+    pub of_refused : (r : Refusal) → judged s ≡ Err r → Err r ≡ of_trace gmin spacing event s
     unfolding of_trace
-    of_refused r h = rw (ranges, h)
+    of_refused r h = rw ((opened_fresh gmin spacing event first opened).ranges, h)
 
-    pub of_start : judged s ≡ Judged-as-Accepted → (t : Tally) → t ≡ fresh gmin spacing event → Running gmin spacing s t t 0
-    unfolding fresh take_each
-    of_start h t e =
-        rw e
-        (record { opened = record { ranges = ranges; none = refl }; trace = accepted_trace s h; within = omega arith; same = refl })
+    module _ (accepted : judged s ≡ Ok (tt {0})) where
+      pub of_start : Running gmin spacing s first first 0
+      unfolding fresh take_each
+      of_start =
+          let f = opened_fresh gmin spacing event first opened in
+          rw f.none
+          (record { opened = record { ranges = f.ranges; none = refl }; trace = accepted_trace s accepted; within = omega arith; same = refl })
 
-    pub of_all : judged s ≡ Judged-as-Accepted → (first t : Tally) → first ≡ fresh gmin spacing event → t ≡ take_each first s → Accepted t ≡ of_trace gmin spacing event s
-    unfolding of_trace
-    of_all h first t e all = rw (ranges, h, ← e, ← all)
+      pub of_all : (t : Tally) (i : ℕ) → Running gmin spacing s first t i → length s ≤ i → Ok t ≡ of_trace gmin spacing event s
+      unfolding of_trace
+      of_all t i r l =
+          let f = opened_fresh gmin spacing event first opened in
+          let all : t ≡ take_each first s = r.same ∙ rw (take_all i s l) in
+          rw (f.ranges, accepted, ← f.none, ← all)

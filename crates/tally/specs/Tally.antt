@@ -1,7 +1,7 @@
 -- The tally: document 01, "The trace and its figures". "A tally is opened with Gmin, spacing and the kind of
 -- event it counts, lost or discarded. It takes packets one after another .. Closing it gives the figures." By document
 -- 02, ticket 7, it may count either. The order line is "Tallies: 15, 10, 9"; a refused packet leaves the tally as given.
-use Rattle.std.specs.Prelude.{ℕ, ◌+◌, Bool, cond, ◌&&◌, List, [], ◌∷◌, leb, ltb}
+use Rattle.std.specs.Prelude.{ℕ, ◌+◌, Bool, cond, ◌&&◌, List, [], ◌∷◌, leb, ltb, Result, Ok, Err}
 use Rattle.refusal.specs.Table.{setting, trace_length, trace_byte}
 use Rattle.refusal.specs.Answer.{unless, if_accepted}
 use Rattle.refusal.specs.declared.Refusal.{Refusal}
@@ -9,17 +9,13 @@ use Rattle.settings.specs.Ranges.{burst_in_range}
 use Rattle.trace.specs.declared.Event.{Event}
 use Rattle.trace.specs.Trace.{packet_max, trace_max, counts_as, judged}
 use Rattle.bursts.specs.declared.Sums.{Sums}
-use Rattle.bursts.specs.declared.FiguresRead.{FiguresRead}
-use Rattle.bursts.specs.declared.FiguresRead.TheVariants.{Accepted as FiguresRead-as-Accepted, Refused as FiguresRead-as-Refused}
 use Rattle.bursts.specs.Groups.{burst_min, duration, square}
 use Rattle.bursts.specs.Sums.{counts_sound, durations_sound}
 use Rattle.bursts.specs.Figures.{figures_of}
 use Rattle.tally.specs.declared.Stretch.{Stretch}
 use Rattle.tally.specs.declared.Tally.{Tally}
-use Rattle.tally.specs.declared.Opened.{Opened}
-use Rattle.tally.specs.declared.Opened.TheVariants.{Accepted, Refused}
-use Rattle.tally.specs.declared.Answer.TheVariants.{Accepted as Answer-as-Accepted, Refused as Answer-as-Refused}
 use Rattle.tally.specs.declared.Taken.{Taken}
+use Rattle.bursts.specs.declared.Figures.{Figures}
 
 -- no packet so far
 unfoldable pub fresh : ℕ → ℕ → Event → Tally
@@ -33,8 +29,8 @@ fresh gmin spacing event =
     }
 
 -- Opening. "a refused opening hands out none"
-unfoldable pub open_of : ℕ → ℕ → Event → Opened
-open_of gmin spacing event = unless (burst_in_range gmin spacing) (Refused setting) (Accepted (fresh gmin spacing event))
+unfoldable pub open_of : ℕ → ℕ → Event → Result Tally Refusal
+open_of gmin spacing event = unless (burst_in_range gmin spacing) (Err setting) (Ok (fresh gmin spacing event))
 
 -- one more burst
 unfoldable pub with_burst : ℕ → Stretch → Sums → Sums
@@ -123,18 +119,18 @@ step_of t packet = cond (counts_as t.event packet) (cond (joins t) (joined t) (a
 
 -- Taking one packet.
 abbrev pub refused_with : Tally → Refusal → Taken
-refused_with t r = record { tally = t; answer = Answer-as-Refused r }
+refused_with t r = record { tally = t; answer = Err r }
 
 unfoldable pub take_one : Tally → ℕ → Taken
 take_one t packet =
     unless (sound t) (refused_with t setting)
     (unless (ltb t.sums.packets trace_max) (refused_with t trace_length)
     (unless (leb packet packet_max) (refused_with t (trace_byte 0))
-    (record { tally = step_of t packet; answer = Answer-as-Accepted })))
+    (record { tally = step_of t packet; answer = (Ok tt) })))
 
 -- Closing.
-unfoldable pub close_of : Tally → FiguresRead
-close_of t = unless (sound t) (FiguresRead-as-Refused setting) (FiguresRead-as-Accepted (figures_of (counted t)))
+unfoldable pub close_of : Tally → Result Figures Refusal
+close_of t = unless (sound t) (Err setting) (Ok (figures_of (counted t)))
 
 -- Packets one after another, each taken or refused.
 unfoldable pub take_each : Tally → List ℕ → Tally
@@ -142,7 +138,7 @@ take_each t [] = t
 take_each t (packet ∷ s) = take_each (take_one t packet).tally s
 
 -- The tally of a whole trace, with what applies of the order line "Traces: 15, 10, 9, 14, 8".
-unfoldable pub of_trace : ℕ → ℕ → Event → List ℕ → Opened
+unfoldable pub of_trace : ℕ → ℕ → Event → List ℕ → Result Tally Refusal
 of_trace gmin spacing event s =
-    unless (burst_in_range gmin spacing) (Refused setting)
-    (if_accepted (judged s) Refused (Accepted (take_each (fresh gmin spacing event) s)))
+    unless (burst_in_range gmin spacing) (Err setting)
+    (if_accepted (judged s) Err (Ok (take_each (fresh gmin spacing event) s)))
