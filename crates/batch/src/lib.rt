@@ -2,16 +2,16 @@
 // the answer says how many of them hold more than T losses, and which is the first. A loss is what the event counts.
 #![tactic(auto)]
 
-ghost use Rattle.std.specs.Prelude.{◌≡◌, ℕ, ◌+◌, ◌-◌, ◌<◌, ◌≤◌, min, length};
-ghost use Rattle.trace.specs.Sum.{count};
+ghost use Rattle.std.specs.Prelude.{◌≡◌, ℕ, Bool, ◌+◌, ◌-◌, ◌<◌, ◌≤◌, min, length};
+ghost use Rattle.trace.specs.Sum.{bit, count};
 ghost use Rattle.trace.specs.Trace.{counted_at, judged, trace_max};
 ghost use Rattle.batch.specs.Judging.{judged_for};
-ghost use Rattle.batch.specs.declared.First.TheVariants.{At};
 ghost use Rattle.batch.specs.Batches.{losses_in, is_over, over_count, first_over};
 ghost use Rattle.batch.specs.Stride.{stride};
+ghost use Rattle.batch.specs.Forms.{Fitting, At, Passed, Found};
 ghost use Rattle.batch.specs.Loss.{loss_of, loss_answer};
 
-use refusal::{Judged, Refusal};
+use refusal::Refusal;
 use trace::{Event, counted};
 
 // The index of a loss of every batch.
@@ -21,11 +21,11 @@ pub const FULL_LOSS: usize = 65_535;
 // byte, so that counting them is compiled to many packets a step.
 const STRIDE: usize = 64;
 
-// The first batch over the threshold, by the index of its first packet.
+// The batches that are looked at: how many packets each has, and how many losses it may hold.
 #[derive(Clone, Copy)]
-pub enum First {
-    At(usize),
-    None,
+pub struct Batches {
+    pub size: usize,
+    pub threshold: usize,
 }
 
 // The running count: a batch, by the index of its first packet, and its losses.
@@ -35,250 +35,261 @@ pub struct Running {
     pub losses: usize,
 }
 
-// The first batch over the threshold, and its losses where there is one.
-#[derive(Clone, Copy)]
-pub struct Reached {
-    pub first: First,
-    pub losses: usize,
-}
-
 // K batches of N are over the threshold; the index is K / N as a 16-bit fraction, 65,535 for all.
 #[derive(Clone, Copy)]
 pub struct EffectiveLoss {
     pub over: usize,
     pub batches: usize,
     pub index: u16,
-    pub first: First,
-}
-
-// What effective loss answers, or why not.
-#[derive(Clone, Copy)]
-pub enum LossRead {
-    Loss(EffectiveLoss),
-    Refused(Refusal),
+    pub first: Option<usize>,
 }
 
 // The effective loss of a trace, with the packets that the event counts as its losses.
-pub fn effective_loss(trace: &[u8], batch: u32, threshold: u32, event: Event) -> LossRead
+#[tactic(auto, unfolding(crate::specs::Loss::loss_answer))]
+pub fn effective_loss(
+    trace: &[u8],
+    batch: u32,
+    threshold: u32,
+    event: Event,
+) -> Result<EffectiveLoss, Refusal>
     ensures { result ≡ loss_answer (judged trace.now) (counted_at event trace.now) (length trace.now) batch threshold }
 {
-    match judge(trace, batch, threshold) {
-        Judged::Accepted => {
-            LossRead::Loss(loss_of(event, trace, batch as usize, threshold as usize))
-        }
-        Judged::Refused(r) => LossRead::Refused(r),
-    }
+    judge(trace, batch, threshold)?;
+    let batches = Batches {
+        size: batch as usize,
+        threshold: threshold as usize,
+    };
+    Ok(loss_of(&Bytes { event, trace }, batches))
 }
 
 // Judges the settings, then the trace, then the batch against the trace.
-pub fn judge(trace: &[u8], batch: u32, threshold: u32) -> Judged
+pub fn judge(trace: &[u8], batch: u32, threshold: u32) -> Result<(), Refusal>
     ensures { result ≡ judged_for (judged trace.now) (length trace.now) batch threshold }
 {
     judge_for(trace::judge(trace), trace.len(), batch, threshold)
 }
 
 // The same of an input in any form, by the verdict on it and its number of packets.
-pub fn judge_for(verdict: Judged, packets: usize, batch: u32, threshold: u32) -> Judged
+#[tactic(auto, unfolding(crate::specs::Judging::judged_for))]
+pub fn judge_for(
+    verdict: Result<(), Refusal>,
+    packets: usize,
+    batch: u32,
+    threshold: u32,
+) -> Result<(), Refusal>
     ensures { result ≡ judged_for verdict packets batch threshold }
 {
     if !settings::batch_in_range(batch, threshold) {
-        return Judged::Refused(refusal::SETTING);
+        return Err(Refusal::Setting);
     }
-    match verdict {
-        Judged::Accepted => {
-            if packets < batch as usize {
-                return Judged::Refused(refusal::BATCH_LENGTH);
-            }
-            Judged::Accepted
-        }
-        Judged::Refused(r) => Judged::Refused(r),
+    verdict?;
+    if packets < batch as usize {
+        return Err(Refusal::BatchLength);
     }
+    Ok(())
 }
 
-// The effective loss of an accepted trace.
-fn loss_of(event: Event, s: &[u8], batch: usize, threshold: usize) -> EffectiveLoss
-    requires { (batch ≤ length s.now) × (length s.now ≤ trace_max) }
-    ensures { result ≡ loss_of (counted_at event s.now) (length s.now) batch threshold }
+// A trace in one of its forms. The search and the count over its batches go through it by these steps, and each form has a way of
+// its own to take many packets at once.
+pub trait Form {
+    // Which packets are losses, and how many packets there are.
+    ghost lost: { Self → ℕ → Bool };
+
+    ghost extent: { Self → ℕ };
+
+    // How many packets the trace has.
+    fn packets(&self) -> usize
+        ensures { result ≡ extent self.now };
+
+    // 1 where packet i is a loss, 0 where not.
+    fn loss(&self, i: usize) -> usize
+        requires { i < extent self.now }
+        ensures { result ≡ bit (lost self.now i) };
+
+    // The losses in the first batch.
+    fn first_losses(&self, batches: Batches) -> usize
+        requires { Fitting (extent self.now) batches.size batches.threshold }
+        ensures { result ≡ losses_in (lost self.now) batches.size 0 };
+
+    // Goes on from a batch that is not over, by strides without one that is.
+    fn pass_under(&self, batches: Batches, from: Running) -> Running
+        requires { Fitting (extent self.now) batches.size batches.threshold × At (lost self.now) (extent self.now) batches.size from.start from.losses × (from.losses ≤ batches.threshold) }
+        ensures { Passed (lost self.now) (extent self.now) batches.size batches.threshold from.start result.start result.losses };
+
+    // How many batches after a batch are over the threshold.
+    fn over_after(&self, batches: Batches, from: Running) -> usize
+        requires { Fitting (extent self.now) batches.size batches.threshold × At (lost self.now) (extent self.now) batches.size from.start from.losses }
+        ensures { result ≡ count (is_over (lost self.now) batches.size batches.threshold) (from.start + 1) (extent self.now - batches.size - from.start) };
+}
+
+// The effective loss of an accepted trace in any form. No batch before the first is over, so the count goes on from there.
+pub fn loss_of<F: Form>(form: &F, batches: Batches) -> EffectiveLoss
+    requires { Fitting (F.extent form.now) batches.size batches.threshold }
+    ensures { result ≡ loss_of (F.lost form.now) (F.extent form.now) batches.size batches.threshold }
 {
-    let batches = s.len() - batch + 1;
-    let reached = first_over(event, s, batch, threshold);
-    let first = reached.first;
-    let over = over_count(event, s, batch, threshold, reached);
+    let all = form.packets() - batches.size + 1;
+    let first = first_over(form, batches);
+    let over = over_from(form, batches, first);
     EffectiveLoss {
         over: over,
-        batches: batches,
-        index: (over * FULL_LOSS / batches) as u16,
-        first: first,
+        batches: all,
+        index: (over * FULL_LOSS / all) as u16,
+        first: first.map(|at| at.start),
     }
 }
 
 // The first batch over the threshold. The running count gains the packet that enters and drops the one that leaves. Strides in
 // which no batch can be over are passed by; the next goes packet by packet, until a batch is over.
-fn first_over(event: Event, s: &[u8], batch: usize, threshold: usize) -> Reached
-    requires { batch ≤ length s.now }
-    ensures first { result.first ≡ first_over (counted_at event s.now) (length s.now) batch threshold }
-    ensures losses { (k : ℕ) → result.first ≡ At k → result.losses ≡ losses_in (counted_at event s.now) batch k }
+fn first_over<F: Form>(form: &F, batches: Batches) -> Option<Running>
+    requires { Fitting (F.extent form.now) batches.size batches.threshold }
+    ensures { Found (F.lost form.now) (F.extent form.now) batches.size batches.threshold result }
 {
-    let last = s.len() - batch;
-    let mut losses = first_losses(event, s, batch);
-    if threshold < losses {
-        return Reached {
-            first: First::At(0),
-            losses,
-        };
-    }
-    let mut first = First::None;
+    let last = form.packets() - batches.size;
     let mut start = 0;
+    let mut losses = form.first_losses(batches);
+    if batches.threshold < losses {
+        return Some(Running { start, losses });
+    }
+    let mut first = None;
+    // Each turn begins where the strides that were passed by end, so no range names it.
     'batches: while start < last {
-        let passed = pass_under(event, s, batch, threshold, Running { start, losses });
-        start = passed.start;
+        let passed = form.pass_under(batches, Running { start, losses });
         losses = passed.losses;
-        let end = stride_end(start, last);
-        while start < end {
-            losses = losses + counted(event, s[start + batch]) - counted(event, s[start]);
-            start += 1;
-            if threshold < losses {
-                first = First::At(start);
+        let end = passed.start + STRIDE.min(last - passed.start);
+        for k in passed.start..end {
+            losses = losses + form.loss(k + batches.size) - form.loss(k);
+            if batches.threshold < losses {
+                let start = k + 1;
+                first = Some(Running { start, losses });
                 break 'batches;
             }
         }
+        start = end;
     }
-    Reached { first, losses }
+    first
 }
 
-// Goes on from a batch that is not over, by whole strides, as long as what enters cannot take a batch over the threshold.
-fn pass_under(event: Event, s: &[u8], batch: usize, threshold: usize, from: Running) -> Running
-    requires { (from.start + batch ≤ length s.now) × (from.losses ≡ losses_in (counted_at event s.now) batch from.start) × (from.losses ≤ threshold) }
-    ensures place { (from.start ≤ result.start) × (result.start + batch ≤ length s.now) }
-    ensures losses { result.losses ≡ losses_in (counted_at event s.now) batch result.start }
-    ensures under { (j : ℕ) → from.start ≤ j → j ≤ result.start → losses_in (counted_at event s.now) batch j ≤ threshold }
+// How many batches are over the threshold, from the first of them on.
+fn over_from<F: Form>(form: &F, batches: Batches, first: Option<Running>) -> usize
+    requires { Fitting (F.extent form.now) batches.size batches.threshold × Found (F.lost form.now) (F.extent form.now) batches.size batches.threshold first }
+    ensures { result ≡ over_count (F.lost form.now) (F.extent form.now) batches.size batches.threshold }
 {
-    let last = s.len() - batch;
-    let mut start = from.start;
-    let mut losses = from.losses;
-    while start + STRIDE <= last {
-        let entering = losses_among(event, s, start + batch, STRIDE);
-        if threshold < losses + entering {
-            break;
-        }
-        losses = losses + entering - losses_among(event, s, start, STRIDE);
-        start += STRIDE;
-    }
-    Running { start, losses }
-}
-
-// Where the stride after batch k ends: no further than the last batch.
-fn stride_end(k: usize, last: usize) -> usize
-    requires { k ≤ last }
-    ensures { result ≡ min (k + stride) last }
-{
-    if STRIDE < last - k { k + STRIDE } else { last }
-}
-
-// How many batches are over the threshold. None before the first is, so the count goes on from there.
-fn over_count(event: Event, s: &[u8], batch: usize, threshold: usize, reached: Reached) -> usize
-    requires { (batch ≤ length s.now) × (reached.first ≡ first_over (counted_at event s.now) (length s.now) batch threshold) × ((k : ℕ) → reached.first ≡ At k → reached.losses ≡ losses_in (counted_at event s.now) batch k) }
-    ensures { result ≡ over_count (counted_at event s.now) (length s.now) batch threshold }
-{
-    let first = reached.first;
-    let losses = reached.losses;
     match first {
-        First::At(start) => 1 + over_after(event, s, batch, threshold, Running { start, losses }),
-        First::None => 0,
+        Some(at) => 1 + form.over_after(batches, at),
+        None => 0,
     }
 }
 
-// How many batches after a batch are over the threshold, stride by stride.
-fn over_after(event: Event, s: &[u8], batch: usize, threshold: usize, from: Running) -> usize
-    requires { (from.start + batch ≤ length s.now) × (from.losses ≡ losses_in (counted_at event s.now) batch from.start) }
-    ensures { result ≡ count (is_over (counted_at event s.now) batch threshold) (from.start + 1) (length s.now - batch - from.start) }
-{
-    let last = s.len() - batch;
-    let mut over = 0;
-    let mut start = from.start;
-    let mut losses = from.losses;
-    while start + STRIDE <= last {
-        let entering = losses_among(event, s, start + batch, STRIDE);
-        let leaving = losses_among(event, s, start, STRIDE);
-        let at = Running { start, losses };
-        over += over_in_stride(event, s, batch, threshold, at, entering, leaving);
-        losses = losses + entering - leaving;
-        start += STRIDE;
-    }
-    over + over_between(event, s, batch, threshold, Running { start, losses }, last)
-}
-
-// How many batches of the stride after a batch are over the threshold: none, where what enters cannot take one there; all,
-// where what leaves cannot take one back.
-fn over_in_stride(
+// A trace of a byte a packet, with the packets that an event counts as its losses.
+#[derive(Clone, Copy)]
+struct Bytes<'a> {
     event: Event,
-    s: &[u8],
-    batch: usize,
-    threshold: usize,
-    from: Running,
-    entering: usize,
-    leaving: usize,
-) -> usize
-    requires { (from.start + stride + batch ≤ length s.now) × (from.losses ≡ losses_in (counted_at event s.now) batch from.start) × (entering ≡ count (counted_at event s.now) (from.start + batch) stride) × (leaving ≡ count (counted_at event s.now) from.start stride) }
-    ensures { result ≡ count (is_over (counted_at event s.now) batch threshold) (from.start + 1) stride }
-{
-    if from.losses + entering <= threshold {
-        return 0;
-    }
-    if threshold + leaving < from.losses {
-        return STRIDE;
-    }
-    over_between(event, s, batch, threshold, from, from.start + STRIDE)
+    trace: &'a [u8],
 }
 
-// How many batches after a batch, up to batch `end`, are over the threshold, packet by packet. Nothing here branches on a
-// packet.
-fn over_between(
-    event: Event,
-    s: &[u8],
-    batch: usize,
-    threshold: usize,
-    from: Running,
-    end: usize,
-) -> usize
-    requires { (from.start ≤ end) × (end + batch ≤ length s.now) × (from.losses ≡ losses_in (counted_at event s.now) batch from.start) }
-    ensures { result ≡ count (is_over (counted_at event s.now) batch threshold) (from.start + 1) (end - from.start) }
-{
-    let mut over = 0;
-    let mut k = from.start;
-    let mut losses = from.losses;
-    while k < end {
-        losses = losses + counted(event, s[k + batch]) - counted(event, s[k]);
-        k += 1;
-        over += (threshold < losses) as usize;
+impl Form for Bytes<'_> {
+    ghost lost = { λ s. counted_at s.event s.trace.now };
+
+    ghost extent = { λ s. length s.trace.now };
+
+    fn packets(&self) -> usize {
+        self.trace.len()
     }
-    over
+
+    fn loss(&self, i: usize) -> usize {
+        counted(self.event, self.trace[i])
+    }
+
+    // Stride by stride.
+    fn first_losses(&self, batches: Batches) -> usize {
+        let whole = batches.size / STRIDE;
+        let mut losses = 0;
+        for k in 0..whole {
+            losses += self.losses_among(STRIDE * k, STRIDE);
+        }
+        losses + self.losses_among(STRIDE * whole, batches.size % STRIDE)
+    }
+
+    // By whole strides, as long as what enters cannot take a batch over the threshold. A range would not say where that ends.
+    fn pass_under(&self, batches: Batches, from: Running) -> Running {
+        let last = self.trace.len() - batches.size;
+        let mut start = from.start;
+        let mut losses = from.losses;
+        while start + STRIDE <= last {
+            let entering = self.losses_among(start + batches.size, STRIDE);
+            if batches.threshold < losses + entering {
+                break;
+            }
+            losses = losses + entering - self.losses_among(start, STRIDE);
+            start += STRIDE;
+        }
+        Running { start, losses }
+    }
+
+    // Stride by stride, and the rest behind the last whole one from where that ends.
+    fn over_after(&self, batches: Batches, from: Running) -> usize {
+        let last = self.trace.len() - batches.size;
+        let mut over = 0;
+        let mut start = from.start;
+        let mut losses = from.losses;
+        while start + STRIDE <= last {
+            let entering = self.losses_among(start + batches.size, STRIDE);
+            let leaving = self.losses_among(start, STRIDE);
+            let at = Running { start, losses };
+            over += self.over_in_stride(batches, at, entering, leaving);
+            losses = losses + entering - leaving;
+            start += STRIDE;
+        }
+        over + self.over_between(batches, Running { start, losses }, last)
+    }
 }
 
-// The losses in the first batch, stride by stride.
-fn first_losses(event: Event, s: &[u8], batch: usize) -> usize
-    requires { batch ≤ length s.now }
-    ensures { result ≡ losses_in (counted_at event s.now) batch 0 }
-{
-    let mut losses = 0;
-    let mut i = 0;
-    while i + STRIDE <= batch {
-        losses += losses_among(event, s, i, STRIDE);
-        i += STRIDE;
+impl Bytes<'_> {
+    // How many batches of the stride after a batch are over the threshold: none, where what enters cannot take one there; all,
+    // where what leaves cannot take one back.
+    fn over_in_stride(
+        &self,
+        batches: Batches,
+        from: Running,
+        entering: usize,
+        leaving: usize,
+    ) -> usize
+        requires { At (counted_at self.now.event self.now.trace.now) (length self.now.trace.now) batches.size from.start from.losses × (from.start + stride + batches.size ≤ length self.now.trace.now) × (entering ≡ count (counted_at self.now.event self.now.trace.now) (from.start + batches.size) stride) × (leaving ≡ count (counted_at self.now.event self.now.trace.now) from.start stride) }
+        ensures { result ≡ count (is_over (counted_at self.now.event self.now.trace.now) batches.size batches.threshold) (from.start + 1) stride }
+    {
+        if from.losses + entering <= batches.threshold {
+            return 0;
+        }
+        if batches.threshold + leaving < from.losses {
+            return STRIDE;
+        }
+        self.over_between(batches, from, from.start + STRIDE)
     }
-    losses + losses_among(event, s, i, batch - i)
-}
 
-// The losses among n packets from packet i on, no more than a stride of them.
-fn losses_among(event: Event, s: &[u8], i: usize, n: usize) -> usize
-    requires { (n ≤ stride) × (i + n ≤ length s.now) }
-    ensures { result ≡ count (counted_at event s.now) i n }
-{
-    let mut losses = 0u8;
-    let mut j = 0;
-    while j < n {
-        losses += counted(event, s[i + j]) as u8;
-        j += 1;
+    // How many batches after a batch, up to batch `end`, are over the threshold, packet by packet. Nothing here branches on a
+    // packet.
+    fn over_between(&self, batches: Batches, from: Running, end: usize) -> usize
+        requires { At (counted_at self.now.event self.now.trace.now) (length self.now.trace.now) batches.size from.start from.losses × (from.start ≤ end) × (end + batches.size ≤ length self.now.trace.now) }
+        ensures { result ≡ count (is_over (counted_at self.now.event self.now.trace.now) batches.size batches.threshold) (from.start + 1) (end - from.start) }
+    {
+        let mut over = 0;
+        let mut losses = from.losses;
+        for k in from.start..end {
+            losses = losses + self.loss(k + batches.size) - self.loss(k);
+            over += (batches.threshold < losses) as usize;
+        }
+        over
     }
-    losses as usize
+
+    // The losses among n packets from packet i on, no more than a stride of them.
+    fn losses_among(&self, i: usize, n: usize) -> usize
+        requires { (n ≤ stride) × (i + n ≤ length self.now.trace.now) }
+        ensures { result ≡ count (counted_at self.now.event self.now.trace.now) i n }
+    {
+        let mut losses = 0u8;
+        for packet in &self.trace[i..i + n] {
+            losses += counted(self.event, *packet) as u8;
+        }
+        losses as usize
+    }
 }

@@ -4,6 +4,7 @@ use mathlib.Core.Path.{◌≡◌, refl, sym, ap, ◌∙◌}
 use mathlib.Core.Bool.{Bool, true, false, cond}
 use native.Mathlib.Omega.{arith}
 use native.Mathlib.Decide.{dec_lt}
+use native.Mathlib.Nat.{div-one}
 use native.Mathlib.Numerals.{add-one}
 use borrow.Author.Tests.{lt-ltb, le-ltb}
 use lib.Dec.{ltb}
@@ -167,3 +168,50 @@ module _ (t h entering leaving : ℕ) where
     all_cross l =
         count_all (over_after t h entering leaving) 0 n
         (λ j at m. lt-ltb (dropped (suc j)) (gained (suc j)) (omega (arith, sum_part (bits (one_at leaving)) 0 (suc j) n (omega arith))))
+
+  -- Where a loop over the steps stands: what is counted, and the words without the j packets that have been gone by.
+  pub record Behind (n low high over j enters leaves : ℕ) : Type 0 where
+    pub crossed : Crossed n low high over j
+    pub few : (j ≤ n) × (low ≤ t + j) × (high ≤ h + j) × (over ≤ j)
+    pub came : enters ≡ entering / 2 ^ j
+    pub left : leaves ≡ leaving / 2 ^ j
+
+  behind_crossed : (n low high over j enters leaves : ℕ) → Crossed n low high over j → enters ≡ entering / 2 ^ j → leaves ≡ leaving / 2 ^ j →
+      Behind n low high over j enters leaves
+  behind_crossed n low high over j enters leaves c came left =
+      record { crossed = c; few = (c.within, c.few.0, c.few.1, crossed_small n low high over j c); came = came; left = left }
+
+  pub behind_none : (n : ℕ) → Behind n t h 0 0 entering leaving
+  behind_none n = behind_crossed n t h 0 0 entering leaving (crossed_none n) (sym (div-one entering)) (sym (div-one leaving))
+
+  module _ (n low high over j enters leaves : ℕ) (b : Behind n low high over j enters leaves) where
+    -- one step further
+    pub behind_next : j < n →
+        Behind n (low + leaves % 2) (high + enters % 2) (over + bool_byte (ltb (low + leaves % 2) (high + enters % 2))) (j + 1) (enters / 2) (leaves / 2)
+    behind_next l =
+        behind_crossed n _ _ _ _ _ _
+        (crossed_next n low high over j b.crossed _ _ (ap (λ (k : ℕ). k % 2) b.left) (ap (λ (k : ℕ). k % 2) b.came) l)
+        (ap (λ (k : ℕ). k / 2) b.came ∙ shr-shr entering j 1) (ap (λ (k : ℕ). k / 2) b.left ∙ shr-shr leaving j 1)
+
+    -- where the words of 64 steps still differ, the next change
+    pub behind_change : n ≡ word_bits → entering < 2 ^ 64 → leaving < 2 ^ 64 → (enters ≡ leaves → ⊥) → Change entering leaving j (count_trailing_zeros 64 (bit_xor enters leaves))
+    behind_change whole few few' other = change_at entering leaving j enters leaves few few' (omega (arith, b.few, whole)) b.came b.left other
+
+    -- and behind it
+    pub behind_changed : (m more : ℕ) → Change entering leaving j m → n ≡ word_bits → more ≡ cond (ltb low high) m 0 →
+        Behind n (low + leaves / 2 ^ m % 2) (high + enters / 2 ^ m % 2) (over + more + bool_byte (ltb (low + leaves / 2 ^ m % 2) (high + enters / 2 ^ m % 2))) (j + (m + 1)) (enters / 2 ^ m / 2) (leaves / 2 ^ m / 2)
+    behind_changed m more next whole counts =
+        behind_crossed n _ _ _ _ _ _
+        (crossed_change n low high over j b.crossed m more _ _ next.same (omega (arith, next.within, whole)) counts
+        (ap (λ (k : ℕ). k / 2 ^ m % 2) b.left) (ap (λ (k : ℕ). k / 2 ^ m % 2) b.came))
+        (ap (λ (k : ℕ). k / 2 ^ m / 2) b.came ∙ gone entering m) (ap (λ (k : ℕ). k / 2 ^ m / 2) b.left ∙ gone leaving m)
+      where
+        gone : (x m : ℕ) → x / 2 ^ j / 2 ^ m / 2 ≡ x / 2 ^ (j + (m + 1))
+        gone x m = shr-shr (x / 2 ^ j) m 1 ∙ shr-shr x j (m + 1)
+
+    -- all steps, and those that are left where no change is
+    pub behind_all : n ≤ j → over ≡ over_among t h entering leaving n
+    behind_all l = crossed_all n low high over j b.crossed l
+
+    pub behind_rest : (more : ℕ) → leaves ≡ enters → more ≡ cond (ltb low high) (n - j) 0 → over + more ≡ over_among t h entering leaving n
+    behind_rest more same counts = crossed_rest n low high over j more b.crossed (sym b.left ∙ same ∙ b.came) counts

@@ -10,7 +10,6 @@ use borrow.Author.Tests.{leb-true}
 use lib.Dec.{leb}
 use lib.ListN.{length, get_or, take, length-take}
 use Rattle.refusal.specs.Table.{trace_length, buffer_short, trace_byte}
-use Rattle.refusal.specs.declared.Judged.TheVariants.{Accepted, Refused}
 use Rattle.refusal.proofs.Tests.{passed, same_leb}
 use Rattle.trace.specs.Sum.{bit}
 use Rattle.trace.specs.Trace.{received, trace_max, packets_within}
@@ -22,6 +21,7 @@ use Rattle.packed.proofs.Numbers.{number_zero, number_at}
 use Rattle.packed.proofs.Windows.{one_needed}
 use Rattle.packed.proofs.Bytes.{get_or_bytes, bytes_same, first_lost}
 use Rattle.packed.proofs.Judging.{room, past_length, clean}
+use Rattle.std.specs.Prelude.{Ok, Err}
 
 -- a packet as a bit, and back
 bit_zero : (x : Bool) → bit x ≤ 0 → x ≡ false
@@ -61,9 +61,9 @@ zero_past words packets none i past within =
 pub accepted_packed : AcceptedPacked
 unfolding judged_packed
 accepted_packed words packets h =
-    let range = passed (packets_within trace_max packets) (Refused trace_length) _ Accepted (λ e. let z : ◌≡◌ {A = ℕ} 0 1 = cc in omega arith) h in
-    let enough = passed (leb (words_for packets) (length words)) (Refused buffer_short) _ Accepted (λ e. let z : ◌≡◌ {A = ℕ} 0 1 = cc in omega arith) range.1 in
-    let all = passed (leb (length (past_end words packets)) (first_past words packets)) (Refused (trace_byte (packets + first_past words packets))) Accepted Accepted (λ e. let z : ◌≡◌ {A = ℕ} 0 1 = cc in omega arith) enough.1 in
+    let range = passed (packets_within trace_max packets) (Err trace_length) _ (Ok (tt {0})) (λ e. let z : ◌≡◌ {A = ℕ} 0 1 = cc in omega arith) h in
+    let enough = passed (leb (words_for packets) (length words)) (Err buffer_short) _ (Ok (tt {0})) (λ e. let z : ◌≡◌ {A = ℕ} 0 1 = cc in omega arith) range.1 in
+    let all = passed (leb (length (past_end words packets)) (first_past words packets)) (Err (trace_byte (packets + first_past words packets))) (Ok (tt {0})) (Ok (tt {0})) (λ e. let z : ◌≡◌ {A = ℕ} 0 1 = cc in omega arith) enough.1 in
     let in-it = ranged trace_max packets range.0 in
     record {
       some = in-it.0;

@@ -1,6 +1,5 @@
 -- What callers may lean on, as statements about the definitions that the calls promise. Proved in proofs/.
-use Rattle.std.specs.Prelude.{ℕ, ◌+◌, ◌*◌, ◌<◌, ◌≤◌, ◌≡◌, true, false, List, length, take}
-use Rattle.refusal.specs.declared.Judged.TheVariants.{Accepted}
+use Rattle.std.specs.Prelude.{ℕ, ◌+◌, ◌*◌, ◌<◌, ◌≤◌, ◌≡◌, true, false, List, length, take, Ok}
 use Rattle.trace.specs.Trace.{trace_min, trace_max}
 use Rattle.packed.specs.Words.{word_bits, one_in, words_for}
 use Rattle.packed.specs.Judging.{past_end, first_past, judged_packed}
@@ -13,10 +12,10 @@ pub record IsPacked (words : List ℕ) (packets : ℕ) : Type 0 where
   pub zero : (i : ℕ) → packets ≤ i → i < word_bits * words_for packets → one_in words i ≡ false
 
 abbrev pub AcceptedPacked : Type 0
-AcceptedPacked = (words : List ℕ) (packets : ℕ) → judged_packed words packets ≡ Accepted → IsPacked words packets
+AcceptedPacked = (words : List ℕ) (packets : ℕ) → judged_packed words packets ≡ (Ok tt) → IsPacked words packets
 
 abbrev pub PackedAccepted : Type 0
-PackedAccepted = (words : List ℕ) (packets : ℕ) → IsPacked words packets → judged_packed words packets ≡ Accepted
+PackedAccepted = (words : List ℕ) (packets : ℕ) → IsPacked words packets → judged_packed words packets ≡ (Ok tt)
 
 -- The place of refusal 9 is that of the first bit past the end, in the last needed word, that is not zero: it is a one, and none
 -- before it is.

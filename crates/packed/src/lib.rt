@@ -13,7 +13,7 @@ ghost use Rattle.trace.specs.Sum.{bit, count};
 ghost use Rattle.packed.specs.Words.{word_bits, one_at, one_in, words_for, number_of};
 ghost use Rattle.packed.specs.Judging.{judged_packed};
 
-use refusal::Judged;
+use refusal::Refusal;
 
 // The packets of a word.
 pub const WORD: usize = 64;
@@ -22,41 +22,38 @@ pub const WORD: usize = 64;
 pub fn words_for(packets: usize) -> usize
     ensures { result ≡ words_for packets }
 {
-    packets / WORD + (packets % WORD + 63) / WORD
+    packets.div_ceil(WORD)
 }
 
 // The words that so many packets need, as a part of those given; all of them, where they are too few.
 pub fn needed(words: &[u64], packets: usize) -> &[u64]
     ensures { result.now ≡ take (words_for packets) words.now }
 {
-    let n = words_for(packets);
-    if words.len() < n {
-        return words;
-    }
-    &words[..n]
+    &words[..words_for(packets).min(words.len())]
 }
 
 // Judges a packed trace by its number of packets, by its words, and by the bits past the end.
-pub fn judge(words: &[u64], packets: usize) -> Judged
+pub fn judge(words: &[u64], packets: usize) -> Result<(), Refusal>
     ensures { result ≡ judged_packed words.now packets }
 {
     if !trace::in_range(packets, trace::TRACE_MAX) {
-        return Judged::Refused(refusal::TRACE_LENGTH);
+        return Err(Refusal::TraceLength);
     }
     if words.len() < words_for(packets) {
-        return Judged::Refused(refusal::BUFFER_SHORT);
+        return Err(Refusal::BufferShort);
     }
     if packets % WORD == 0 {
-        return Judged::Accepted;
+        return Ok(());
     }
     let past = words[packets / WORD] >> (packets % WORD);
     if past == 0 {
-        return Judged::Accepted;
+        return Ok(());
     }
-    Judged::Refused(refusal::trace_byte(packets + u64::trailing_zeros(past) as usize))
+    Err(Refusal::TraceByte(packets + past.trailing_zeros() as usize))
 }
 
-// The 64 packets from packet i on, packet i in the lowest bit. Packets past the words are as received.
+// The 64 packets from packet i on, packet i in the lowest bit. Packets past the words are as received. The tests come one by one: two
+// calls of `get` would test both places in every call, where a whole word inside needs one.
 pub fn window(words: &[u64], i: usize) -> u64
     ensures { result ≡ number_of (one_in words.now) i word_bits }
 {
@@ -86,7 +83,7 @@ pub fn one_in(words: &[u64], i: usize) -> usize
 pub fn ones(word: u64) -> usize
     ensures { result ≡ count (one_at word) 0 word_bits }
 {
-    u64::count_ones(word) as usize
+    word.count_ones() as usize
 }
 
 // How many of the n packets from packet i on are ones, no more than a word of them.

@@ -15,6 +15,7 @@ use Rattle.trace.specs.Sum.{bit, bits, count}
 use Rattle.trace.specs.Trace.{trace_max}
 use Rattle.trace.proofs.Sums.{sum_moved, sum_cut, count_none, count_zero}
 use Rattle.batch.specs.Batches.{losses_in, is_over}
+use Rattle.batch.specs.Forms.{Passed}
 use Rattle.batch.proofs.Sliding.{Slid, slid, under_counted}
 use Rattle.batch.proofs.Loops.{Tallied, tallied_more}
 use Rattle.packed.specs.Words.{word_bits, one_at, one_in, number_of}
@@ -143,9 +144,19 @@ not_stopped true over h on = eqb-true over 0 (not-false (eqb over 0) h)
 not_stopped false over h on = absurd (true_false (sym on))
 
 -- where none was over, each batch holds at most t
-pub under_walked : (lost : ℕ → Bool) (packets b t k over to losses : ℕ) → Walked lost packets b t k true over to losses → (j : ℕ) → k < j → j ≤ to → losses_in lost b j ≤ t
+under_walked : (lost : ℕ → Bool) (packets b t k over to losses : ℕ) → Walked lost packets b t k true over to losses → (j : ℕ) → k < j → j ≤ to → losses_in lost b j ≤ t
 under_walked lost packets b t k over to losses s j l h =
     ltb-false t (losses_in lost b j) (count_zero (is_over lost b t) (k + 1) (to - k) (sym s.counts ∙ s.stopped refl) j (omega arith) (omega arith))
+
+-- and behind a batch that is not over
+pub passed : (lost : ℕ → Bool) (packets b t k held over to losses : ℕ) → held ≡ losses_in lost b k → held ≤ t → Walked lost packets b t k true over to losses →
+    Passed lost packets b t k to losses
+passed lost packets b t k held over to losses is low w =
+    record { onward = w.onward; at = record { within = w.within; held = w.held }; under = λ j l h. go j l h (dec_lt k j) }
+  where
+    go : (j : ℕ) → k ≤ j → j ≤ to → Dec (k < j) → losses_in lost b j ≤ t
+    go j l h (yes later) = under_walked lost packets b t k over to losses w j later h
+    go j l h (no here) = let same : j ≡ k = omega arith in rw same (omega arith)
 
 -- words that are zero
 both_zero : (a b : ℕ) → bit_or a b ≡ 0 → (a ≡ 0) × (b ≡ 0)

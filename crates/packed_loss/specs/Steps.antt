@@ -8,12 +8,6 @@ use Rattle.packed.specs.Words.{word_bits}
 abbrev pub group : ℕ
 group = 8
 
--- a batch within the packets, and numbers that are not large
-pub record Fitting (packets batch threshold : ℕ) : Type 0 where
-  pub within : batch ≤ packets
-  pub most : packets ≤ trace_max
-  pub low : threshold ≤ trace_max
-
 -- behind batch `from`, up to batch `to`, which holds `losses`, so many batches are over the threshold
 pub record Settled (lost : ℕ → Bool) (packets b t from over to losses : ℕ) : Type 0 where
   pub onward : from < to

@@ -3,15 +3,17 @@
 use Prim.Native.Nat.{ℕ, zero, suc, ◌+◌, ◌-◌, ◌<◌, ◌≤◌}
 use mathlib.Core.Path.{◌≡◌, refl, sym, ap, ap₂, ◌∙◌}
 use mathlib.Core.Bool.{Bool, true, false, ◌&&◌, not}
-use mathlib.Core.List.{List, ◌++◌}
+use mathlib.Core.List.{List, [], ◌∷◌, ◌++◌, append_assoc, append-nil}
 use native.Mathlib.Omega.{arith}
 use native.Mathlib.Nat.{add-zero, add-suc}
 use native.Mathlib.Numerals.{add-one}
 use lib.Dec.{eqb}
-use lib.ListN.{length, get_or, set, take, drop, length-set, get_or-append}
-use lib.Seq.{length-take-le, get_or-take, drop_at, drop-drop}
+use lib.ListN.{length, get_or, take, drop, replicate, length-set, length-append, get_or-append}
+use lib.Seq.{length-take-le, get_or-take, drop_at, drop-drop, drop-cons, set_at, append_snoc}
+use borrow.Rule.Slice.PartMut.{put_mid}
+use Rattle.std.proofs.lemmas.List.{take-append-drop, length-replicate, replicate-append-replicate}
 use Rattle.trace.specs.Sum.{sum, bit, bits, count}
-use Rattle.trace.proofs.Sums.{bit_le, sum_moved, sum_both, sum_part, up_to, up_to_window}
+use Rattle.trace.proofs.Sums.{bit_le, sum_one, sum_cut, sum_moved, sum_both, sum_part, up_to, up_to_window}
 use Rattle.resend.specs.Plans.{marked, left}
 use Rattle.resend.specs.Greedy.{plan_of}
 use Rattle.resend.specs.Steps.{leaving, Filling}
@@ -24,13 +26,29 @@ unfolding cleared
 length_cleared out i zero = refl
 length_cleared out i (suc n) = length-set (cleared out i n) (i + n) 0 ∙ length_cleared out i n
 
-pub cleared_none : (out : List ℕ) (i : ℕ) → out ≡ cleared out i 0
-unfolding cleared
-cleared_none out i = refl
+-- the places filled with 0 at once
+abbrev zeros : ℕ → List ℕ
+zeros n = replicate n 0
 
-pub cleared_next : (out : List ℕ) (i n : ℕ) → set (cleared out i n) (i + n) 0 ≡ cleared out i (n + 1)
+cleared_is : (out : List ℕ) (i n : ℕ) → i + n ≤ length out → cleared out i n ≡ (take i out ++ zeros n) ++ drop (i + n) out
 unfolding cleared
-cleared_next out i n = rw (add-one n)
+cleared_is out i zero h = rw (append-nil (take i out), add-zero i) (sym (take-append-drop i out))
+cleared_is out i (suc n) h =
+    let before = cleared_is out i n (omega arith) in
+    let front : length (take i out ++ zeros n) ≡ i + n =
+    length-append (take i out) (zeros n) ∙ omega (arith, length-take-le i out (omega arith), length-replicate {A = ℕ} n 0)
+    in
+    let more : zeros (suc n) ≡ zeros n ++ (0 ∷ []) = ap zeros (sym (add-one n)) ∙ sym (replicate-append-replicate {A = ℕ} n 1 0) in
+    rw (before, drop-cons out (i + n) 0 (omega arith), set_at (take i out ++ zeros n) (get_or out (i + n) 0) (drop (suc (i + n)) out) 0 (i + n) front, more, add-suc i n, ← append_assoc (take i out) (zeros n) (0 ∷ []))
+    (sym (append_snoc (take i out ++ zeros n) 0 (drop (suc (i + n)) out)))
+
+pub cleared_filled : (out : List ℕ) (i n k : ℕ) (fill : List ℕ) → i + n ≤ length out → k ≡ n → fill ≡ replicate n 0 → put_mid i k out fill ≡ cleared out i n
+cleared_filled out i n k fill h size is =
+    rw (size, is, drop-drop n i out, ← append_assoc (take i out) (zeros n) (drop (i + n) out)) (sym (cleared_is out i n h))
+
+-- a sum with one more
+pub sum_on : (f : ℕ → ℕ) (i j so_far x : ℕ) → so_far ≡ sum f i j → x ≡ f (i + j) → so_far + x ≡ sum f i (j + 1)
+sum_on f i j so_far x is here = omega (arith, is, here, sum_cut f i j 1, sum_one f (i + j))
 
 -- a sum of bytes that are marks or none
 pub sum_few : (f : ℕ → ℕ) (i n : ℕ) → ((p : ℕ) → i ≤ p → p < i + n → f p ≤ 1) → sum f i n ≤ n

@@ -12,10 +12,6 @@ use lib.ListN.{length, get_or, take, drop, length-append, get_or-append}
 use lib.Seq.{take-suc, take_at, get_or_at, drop_at}
 use Rattle.refusal.specs.Answer.{unless, if_accepted, after}
 use Rattle.refusal.specs.Table.{buffer_short}
-use Rattle.refusal.specs.declared.Judged.{Judged}
-use Rattle.refusal.specs.declared.Judged.TheVariants.{Accepted, Refused as Judged-as-Refused}
-use Rattle.refusal.specs.declared.Written.{Written}
-use Rattle.refusal.specs.declared.Written.TheVariants.{Size, Refused}
 use Rattle.trace.specs.Sum.{bit}
 use Rattle.trace.specs.Trace.{lost, discarded, packet_max, trace_max, counted_at, counts_as, flagged, first_above, judged_within, judged}
 use Rattle.trace.specs.Laws.{IsWithin, IsTrace}
@@ -32,6 +28,8 @@ use Rattle.packing.specs.Packing.{words_up_to, words_of, pack_answer}
 use Rattle.packing.specs.Laws.{packed_into, unpacked_into, PackedForm, PackUnpack, PackBack, UnpackPack, BehindKept, PackAsBefore}
 use Rattle.packing.proofs.Words.{length_words}
 use Rattle.packing.proofs.Answers.{pack_done, unpack_done}
+use Rattle.std.specs.Prelude.{Ok, Err}
+use Rattle.refusal.specs.Answer.{Judged, Written}
 
 -- a bit is a packet that is lost or not
 bit_lost : (x : Bool) → eqb (bit x) lost ≡ x
@@ -162,19 +160,19 @@ unpack_pack event words room buffer packets counted word_fits p fits enough =
     let all : words_up_to (counted_at event bytes) n ≡ take n words = words_of_lem (counted_at event bytes) words n p.enough word_fits same in
     rw (← taken) (
       sym unpacked.0,
-      sym packed.0 ∙ ap (λ (k : ℕ). Size (words_for k)) long,
+      sym packed.0 ∙ ap (λ (k : ℕ). Ok (words_for k)) long,
       sym packed.1 ∙ ap (λ (k : ℕ). words_of (counted_at event bytes) k ++ drop (words_for k) buffer) long ∙ ap (λ (l : List ℕ). l ++ drop n buffer) all,
     )
 
 -- whatever the answer, what stands behind the words is as it was
-kept_behind : (answer : Written) (result buffer : List ℕ) (n : ℕ) → length result ≡ n → ((m : ℕ) → answer ≡ Size m → m ≡ n) → drop n (after answer result buffer) ≡ drop n buffer
-kept_behind (Size m) result buffer n long is = drop_at result (drop m buffer) n long ∙ ap (λ (k : ℕ). drop k buffer) (is m refl)
-kept_behind (Refused r) result buffer n long is = refl
+kept_behind : (answer : Written) (result buffer : List ℕ) (n : ℕ) → length result ≡ n → ((m : ℕ) → answer ≡ Ok m → m ≡ n) → drop n (after answer result buffer) ≡ drop n buffer
+kept_behind (Ok m) result buffer n long is = drop_at result (drop m buffer) n long ∙ ap (λ (k : ℕ). drop k buffer) (is m refl)
+kept_behind (Err r) result buffer n long is = refl
 
-size_is : (j : Judged) (t : Bool) (n m : ℕ) → if_accepted j Refused (unless t (Refused buffer_short) (Size n)) ≡ Size m → m ≡ n
-size_is Accepted true n m h = cc
-size_is Accepted false n m h = let z : ◌≡◌ {A = ℕ} 0 1 = cc in absurd (omega arith)
-size_is (Judged-as-Refused r) t n m h = let z : ◌≡◌ {A = ℕ} 0 1 = cc in absurd (omega arith)
+size_is : (j : Judged) (t : Bool) (n m : ℕ) → if_accepted j Err (unless t (Err buffer_short) (Ok n)) ≡ Ok m → m ≡ n
+size_is (Ok _) true n m h = cc
+size_is (Ok _) false n m h = let z : ◌≡◌ {A = ℕ} 0 1 = cc in absurd (omega arith)
+size_is (Err r) t n m h = let z : ◌≡◌ {A = ℕ} 0 1 = cc in absurd (omega arith)
 
 pub behind_kept : BehindKept
 unfolding pack_answer

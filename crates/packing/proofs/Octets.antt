@@ -2,20 +2,23 @@
 -- as they are loaded. Assumes nothing.
 use Prim.Native.Nat.{ℕ, zero, suc, ◌+◌, ◌-◌, ◌*◌, ◌/◌, ◌%◌, ◌^◌, ◌<◌, ◌≤◌}
 use mathlib.Core.Path.{◌≡◌, refl, sym, ap, ◌∙◌}
-use mathlib.Core.List.{List}
+use mathlib.Core.List.{List, append_assoc}
 use native.Mathlib.Omega.{arith}
 use native.Mathlib.Nat.{add-zero, add-suc, pow-succ', div-div-eq-div-mul, div-one}
 use borrow.Author.Tests.{eqb-true}
 use lib.Bits.{bit_and}
 use lib.Dec.{eqb}
-use lib.ListN.{get_or, length, set}
+use lib.ListN.{get_or, length, take, drop}
+use borrow.Rule.Slice.PartMut.{put_mid}
+use Rattle.std.proofs.lemmas.List.{get_or-drop, get_or-take, drop-drop}
+use Rattle.std.specs.Int.{w64, from_le_bytes, to_le_bytes}
 use Rattle.refusal.proofs.Tests.{below, below_at}
 use Rattle.wire.specs.BigEndian.{placed}
-use Rattle.wire.proofs.Placed.{stored_8}
+use Rattle.wire.proofs.Placed.{placed_in}
 use Rattle.trace.specs.Sum.{bit}
-use Rattle.trace.specs.Trace.{packet_max}
 use Rattle.packed.specs.Words.{one_at, bytes_of}
 use Rattle.packed.proofs.Numbers.{bit_of}
+use Rattle.packed.proofs.Bytes.{length_bytes}
 use Rattle.packing.specs.Steps.{Packets, joined, spread, ones}
 
 -- both steps as the code has them: every number of eight bits is tested
@@ -62,28 +65,24 @@ pub spread_most : (bits : ℕ) → spread 8 bits ≤ ones
 unfolding spread
 spread_most bits = omega arith
 
--- eight bytes stored one after the other
-pub eight_stored : (s : List ℕ) (i n bits : ℕ) → i + 8 ≤ length s → n ≡ spread 8 bits →
-    set (set (set (set (set (set (set (set s i (n % 256)) (i + 1) (n / 256 % 256)) (i + 2) (n / 65536 % 256)) (i + 3) (n / 16777216 % 256))
-    (i + 4) (n / 4294967296 % 256)) (i + 5) (n / 1099511627776 % 256)) (i + 6) (n / 281474976710656 % 256)) (i + 7) (n / 72057594037927936 % 256)
-    ≡ placed s i (bytes_of (one_at bits) 0 8)
+-- the bytes of the number, in order, are the eight bits as bytes
+bytes_spread : (n bits : ℕ) → n ≡ spread 8 bits → to_le_bytes w64 n ≡ bytes_of (one_at bits) 0 8
 unfolding bytes_of
-eight_stored s i n bits h is =
+bytes_spread n bits is =
     let byte : (j : ℕ) → j < 8 → n / 256 ^ j % 256 ≡ bit (one_at bits j) =
     λ j l. ap (λ (k : ℕ). k / 256 ^ j % 256) is ∙ spread_at 8 bits j l ∙ sym (bit_of bits j)
     in
     let first : n % 256 ≡ bit (one_at bits 0) = ap (λ (k : ℕ). k % 256) (sym (div-one n)) ∙ byte 0 (omega arith) in
-    stored_8 s i _ _ _ _ _ _ _ _ h
-    ∙ rw (first, byte 1 (omega arith), byte 2 (omega arith), byte 3 (omega arith), byte 4 (omega arith), byte 5 (omega arith), byte 6 (omega arith), byte 7 (omega arith))
+    rw (first, byte 1 (omega arith), byte 2 (omega arith), byte 3 (omega arith), byte 4 (omega arith), byte 5 (omega arith), byte 6 (omega arith), byte 7 (omega arith))
 
--- eight packets of a trace, as the code loads them: none is above 2, so that no shift overflows
-abbrev pub Small : List ℕ → ℕ → Type 0
-Small s i =
-    (get_or s i 0 ≤ packet_max) × (get_or s (i + 1) 0 ≤ packet_max) × (get_or s (i + 2) 0 ≤ packet_max) × (get_or s (i + 3) 0 ≤ packet_max)
-    × (get_or s (i + 4) 0 ≤ packet_max) × (get_or s (i + 5) 0 ≤ packet_max) × (get_or s (i + 6) 0 ≤ packet_max) × (get_or s (i + 7) 0 ≤ packet_max)
-
-pub small : (s : List ℕ) → Packets s → (i : ℕ) → Small s i
-small s b i = (b i, b (i + 1), b (i + 2), b (i + 3), b (i + 4), b (i + 5), b (i + 6), b (i + 7))
+-- and so they are placed
+pub eight_placed : (s : List ℕ) (i k n bits : ℕ) (bytes : List ℕ) → i + 8 ≤ length s → k ≡ 8 → bytes ≡ to_le_bytes w64 n → n ≡ spread 8 bits →
+    put_mid i k s bytes ≡ placed s i (bytes_of (one_at bits) 0 8)
+eight_placed s i k n bits bytes h eight is spreads =
+    let whole = is ∙ bytes_spread n bits spreads in
+    let room : i + length (bytes_of (one_at bits) 0 8) ≤ length s = rw (length_bytes (one_at bits) 0 8) h in
+    rw (eight, whole, drop-drop 8 i s, ← append_assoc (take i s) (bytes_of (one_at bits) 0 8) (drop (i + 8) s))
+    (rw (← ap (λ (k : ℕ). drop (i + k) s) (length_bytes (one_at bits) 0 8)) (sym (placed_in s i (bytes_of (one_at bits) 0 8) room)))
 
 module _ (s : List ℕ) (i : ℕ) where
   next : (k n : ℕ) → joined s (i + k) (suc n) ≡ get_or s (i + k) 0 + 256 * joined s (i + suc k) n
@@ -112,12 +111,17 @@ module _ (s : List ℕ) (i : ℕ) where
       let none = joined_none (i + 8) in
       omega arith
 
-  module _ (b : Packets s) where
-    pub loaded_is :
-        get_or s i 0 + get_or s (i + 1) 0 * 2 ^ 8 % 2 ^ 64 + get_or s (i + 2) 0 * 2 ^ 16 % 2 ^ 64 + get_or s (i + 3) 0 * 2 ^ 24 % 2 ^ 64
-        + get_or s (i + 4) 0 * 2 ^ 32 % 2 ^ 64 + get_or s (i + 5) 0 * 2 ^ 40 % 2 ^ 64 + get_or s (i + 6) 0 * 2 ^ 48 % 2 ^ 64 + get_or s (i + 7) 0 * 2 ^ 56 % 2 ^ 64
-        ≡ joined s i 8
-    loaded_is = let few = small s b i in let is = joined_eight in omega arith
+  -- eight bytes from there on, loaded as one number
+  pub loaded_is : (bytes : List ℕ) → bytes ≡ take 8 (drop i s) → from_le_bytes w64 bytes ≡ joined s i 8
+  loaded_is bytes same =
+      let at : (k : ℕ) → k < 8 → get_or bytes k 0 ≡ get_or s (i + k) 0 =
+      λ k h. ap (λ (l : List ℕ). get_or l k 0) same ∙ get_or-take 8 (drop i s) k 0 h ∙ get_or-drop i s k 0
+      in
+      let first : get_or bytes 0 0 ≡ get_or s i 0 = at 0 (omega arith) ∙ ap (λ (j : ℕ). get_or s j 0) (add-zero i) in
+      let is = joined_eight in
+      omega (arith, at 1 (omega arith), at 2 (omega arith), at 3 (omega arith), at 4 (omega arith), at 5 (omega arith), at 6 (omega arith), at 7 (omega arith))
 
-    pub joined_most : joined s i 8 ≤ 2 * ones
-    joined_most = let few = small s b i in let is = joined_eight in omega arith
+  pub joined_most : Packets s → joined s i 8 ≤ 2 * ones
+  joined_most b =
+      let is = joined_eight in
+      omega (arith, b i, b (i + 1), b (i + 2), b (i + 3), b (i + 4), b (i + 5), b (i + 6), b (i + 7))

@@ -1,16 +1,15 @@
 -- What callers may lean on, as statements about the definitions that `pack` and `unpack` promise, for every choice of what counts.
 -- Proved in proofs/.
-use Rattle.std.specs.Prelude.{ℕ, ◌<◌, ◌≤◌, ◌^◌, ◌≡◌, true, List, ◌++◌, leb, length, get_or, take, drop}
+use Rattle.std.specs.Prelude.{ℕ, ◌<◌, ◌≤◌, ◌^◌, ◌≡◌, true, List, ◌++◌, leb, length, get_or, take, drop, Ok, Err}
 use Rattle.refusal.specs.Table.{buffer_short}
 use Rattle.refusal.specs.Answer.{unless, if_accepted, after}
-use Rattle.refusal.specs.declared.Written.{Written}
-use Rattle.refusal.specs.declared.Written.TheVariants.{Size, Refused}
 use Rattle.trace.specs.declared.Event.{Event}
 use Rattle.trace.specs.Trace.{lost, discarded, trace_max, counts_as, counted_at, flagged, judged_within}
 use Rattle.trace.specs.Laws.{IsWithin, IsTrace}
 use Rattle.packed.specs.Words.{words_for, one_in, bytes_of}
 use Rattle.packed.specs.Laws.{IsPacked}
 use Rattle.packing.specs.Packing.{words_of, pack_answer, unpack_answer}
+use Rattle.refusal.specs.Answer.{Written}
 
 -- the buffer after a call
 abbrev pub packed_into : Event → List ℕ → List ℕ → List ℕ
@@ -34,8 +33,8 @@ PackedForm =
 abbrev pub PackUnpack : Type 0
 PackUnpack =
     (event : Event) (s buffer room : List ℕ) → IsTrace s → words_for (length s) ≤ length buffer → length s ≤ length room →
-    (pack_answer s buffer ≡ Size (words_for (length s))) ×
-    (unpack_answer (packed_into event s buffer) (length s) room ≡ Size (length s)) ×
+    (pack_answer s buffer ≡ Ok (words_for (length s))) ×
+    (unpack_answer (packed_into event s buffer) (length s) room ≡ Ok (length s)) ×
     (unpacked_into (packed_into event s buffer) (length s) room ≡ flagged event s ++ drop (length s) room)
 
 -- "Ticket 6's conversion both ways is then promised for packing by lost only or either", the choices that count lost packets: of a
@@ -48,9 +47,9 @@ PackBack =
 -- The tie to ticket 6 by itself, where "converting from bytes counts 2 as bad": without a 2 the answer is the same.
 abbrev pub answer_before : List ℕ → List ℕ → Written
 answer_before s buffer =
-    if_accepted (judged_within trace_max lost s) Refused
-    (unless (leb (words_for (length s)) (length buffer)) (Refused buffer_short)
-    (Size (words_for (length s))))
+    if_accepted (judged_within trace_max lost s) Err
+    (unless (leb (words_for (length s)) (length buffer)) (Err buffer_short)
+    (Ok (words_for (length s))))
 
 abbrev pub PackAsBefore : Type 0
 PackAsBefore =
@@ -67,6 +66,6 @@ abbrev pub UnpackPack : Type 0
 UnpackPack =
     (event : Event) (words room buffer : List ℕ) (packets : ℕ) → counts_as event lost ≡ true → ((k : ℕ) → get_or words k 0 < 2 ^ 64) →
     IsPacked words packets → packets ≤ length room → words_for packets ≤ length buffer →
-    (unpack_answer words packets room ≡ Size packets) ×
-    (pack_answer (take packets (unpacked_into words packets room)) buffer ≡ Size (words_for packets)) ×
+    (unpack_answer words packets room ≡ Ok packets) ×
+    (pack_answer (take packets (unpacked_into words packets room)) buffer ≡ Ok (words_for packets)) ×
     (packed_into event (take packets (unpacked_into words packets room)) buffer ≡ take (words_for packets) words ++ drop (words_for packets) buffer)

@@ -11,93 +11,87 @@ ghost use Rattle.packing.specs.Packing.{words_of, pack_answer, unpack_answer};
 ghost use Rattle.packing.specs.Steps.{Packets, joined, brought, lowest, spread, ones, Gathered};
 
 use packed::WORD;
-use refusal::{Judged, Written};
+use refusal::Refusal;
 use trace::Event;
 
 // Packs a trace into the front of out, a one for each packet that the event counts; answers how many words it takes.
-pub fn pack(trace: &[u8], event: Event, out: &mut [u64]) -> Written
+pub fn pack(trace: &[u8], event: Event, out: &mut [u64]) -> Result<usize, Refusal>
     ensures answer { result ≡ pack_answer trace.now out.old }
     ensures buffer { out.new ≡ after (pack_answer trace.now out.old) (words_of (counted_at event trace.now) (length trace.now)) out.old }
 {
-    match trace::judge(trace) {
-        Judged::Accepted => {
-            let n = packed::words_for(trace.len());
-            if out.len() < n {
-                return Written::Refused(refusal::BUFFER_SHORT);
-            }
-            put_words(event, trace, out);
-            Written::Size(n)
+    trace::judge(trace)?;
+    let n = packed::words_for(trace.len());
+    if out.len() < n {
+        return Err(Refusal::BufferShort);
+    }
+    let chosen = Chosen { event, trace };
+    chosen.put_words(out);
+    Ok(n)
+}
+
+// An accepted trace, and the event whose packets are chosen to count.
+#[derive(Clone, Copy)]
+struct Chosen<'a> {
+    event: Event,
+    trace: &'a [u8],
+    ghost packets: { Packets trace.now },
+}
+
+impl Chosen<'_> {
+    // Packs it into the front of out, which has room for its words.
+    fn put_words(&self, out: &mut [u64])
+        requires { words_for (length self.now.trace.now) ≤ length out.old }
+        ensures { out.new ≡ words_of (counted_at self.now.event self.now.trace.now) (length self.now.trace.now) ++ drop (words_for (length self.now.trace.now)) out.old }
+    {
+        let whole = self.trace.len() / WORD;
+        for k in 0..whole {
+            out[k] = self.word(WORD * k);
         }
-        Judged::Refused(r) => Written::Refused(r),
+        if self.trace.len() % WORD == 0 {
+            return;
+        }
+        out[whole] = self.last_word(WORD * whole);
     }
-}
 
-// Packs an accepted trace into the front of out, which has room for its words.
-fn put_words(event: Event, trace: &[u8], out: &mut [u64])
-    requires { Packets trace.now × (words_for (length trace.now) ≤ length out.old) }
-    ensures { out.new ≡ words_of (counted_at event trace.now) (length trace.now) ++ drop (words_for (length trace.now)) out.old }
-{
-    let whole = trace.len() / WORD;
-    let mut k = 0;
-    while k < whole {
-        out[k] = word(event, trace, WORD * k);
-        k += 1;
+    // The word of the 64 packets from packet i on.
+    fn word(&self, i: usize) -> u64
+        requires { i + word_bits ≤ length self.now.trace.now }
+        ensures { result ≡ number_of (counted_at self.now.event self.now.trace.now) i word_bits }
+    {
+        let mut word = 0;
+        for j in 0..8 {
+            word += self.octet(i + 8 * j) << (8 * j);
+        }
+        word
     }
-    if trace.len() % WORD == 0 {
-        return;
+
+    // The last word, of fewer packets, from packet i on; its bits past the end are zero.
+    fn last_word(&self, i: usize) -> u64
+        requires { (i ≤ length self.now.trace.now) × (length self.now.trace.now ≤ i + word_bits) }
+        ensures { result ≡ number_of (counted_at self.now.event self.now.trace.now) i word_bits }
+    {
+        let mut word = 0;
+        for j in 0..self.trace.len() - i {
+            word += (trace::counted(self.event, self.trace[i + j]) as u64) << j;
+        }
+        word
     }
-    out[whole] = last_word(event, trace, WORD * whole);
-}
 
-// The word of the 64 packets from packet i on.
-fn word(event: Event, trace: &[u8], i: usize) -> u64
-    requires { Packets trace.now × (i + word_bits ≤ length trace.now) }
-    ensures { result ≡ number_of (counted_at event trace.now) i word_bits }
-{
-    let mut word = 0;
-    let mut j = 0;
-    while j < 8 {
-        word = word + (octet(event, trace, i + 8 * j) << (8 * j));
-        j += 1;
+    // Eight packets from packet i on as eight bits.
+    fn octet(&self, i: usize) -> u64
+        requires { i + 8 ≤ length self.now.trace.now }
+        ensures { result ≡ number_of (counted_at self.now.event self.now.trace.now) i 8 }
+    {
+        gathered(flags(self.event, self.loaded(i)))
     }
-    word
-}
 
-// The last word, of fewer packets, from packet i on; its bits past the end are zero.
-fn last_word(event: Event, trace: &[u8], i: usize) -> u64
-    requires { (i ≤ length trace.now) × (length trace.now ≤ i + word_bits) }
-    ensures { result ≡ number_of (counted_at event trace.now) i word_bits }
-{
-    let mut word = 0;
-    let mut j = 0;
-    while j < trace.len() - i {
-        word = word + ((trace::counted(event, trace[i + j]) as u64) << j);
-        j += 1;
+    // Eight packets as one number, the first in its lowest byte. The part of the trace has just these, so that no length is tested here.
+    fn loaded(&self, i: usize) -> u64
+        requires { i + 8 ≤ length self.now.trace.now }
+        ensures { result ≡ joined self.now.trace.now i 8 }
+    {
+        u64::from_le_bytes(*self.trace[i..i + 8].first_chunk().unwrap())
     }
-    word
-}
-
-// Eight packets from packet i on as eight bits.
-fn octet(event: Event, trace: &[u8], i: usize) -> u64
-    requires { Packets trace.now × (i + 8 ≤ length trace.now) }
-    ensures { result ≡ number_of (counted_at event trace.now) i 8 }
-{
-    gathered(flags(event, loaded(trace, i)))
-}
-
-// Eight packets as one number, the first in its lowest byte: eight loads that the compiler makes one.
-fn loaded(trace: &[u8], i: usize) -> u64
-    requires { Packets trace.now × (i + 8 ≤ length trace.now) }
-    ensures { result ≡ joined trace.now i 8 }
-{
-    (trace[i] as u64)
-        + ((trace[i + 1] as u64) << 8)
-        + ((trace[i + 2] as u64) << 16)
-        + ((trace[i + 3] as u64) << 24)
-        + ((trace[i + 4] as u64) << 32)
-        + ((trace[i + 5] as u64) << 40)
-        + ((trace[i + 6] as u64) << 48)
-        + ((trace[i + 7] as u64) << 56)
 }
 
 // Eight packets with 1 for each that the event counts, and 0 for any other.
@@ -124,20 +118,16 @@ fn gathered(eight: u64) -> u64
 }
 
 // Unpacks words into the front of out, 1 for each one and 0 for each zero; answers how many packets these are.
-pub fn unpack(words: &[u64], packets: usize, out: &mut [u8]) -> Written
+pub fn unpack(words: &[u64], packets: usize, out: &mut [u8]) -> Result<usize, Refusal>
     ensures answer { result ≡ unpack_answer words.now packets out.old }
     ensures buffer { out.new ≡ after (unpack_answer words.now packets out.old) (bytes_of (one_in words.now) 0 packets) out.old }
 {
-    match packed::judge(words, packets) {
-        Judged::Accepted => {
-            if out.len() < packets {
-                return Written::Refused(refusal::BUFFER_SHORT);
-            }
-            put_packets(words, packets, out);
-            Written::Size(packets)
-        }
-        Judged::Refused(r) => Written::Refused(r),
+    packed::judge(words, packets)?;
+    if out.len() < packets {
+        return Err(Refusal::BufferShort);
     }
+    put_packets(words, packets, out);
+    Ok(packets)
 }
 
 // Unpacks so many packets into the front of out, which has room for them.
@@ -146,10 +136,8 @@ fn put_packets(words: &[u64], packets: usize, out: &mut [u8])
     ensures { out.new ≡ bytes_of (one_in words.now) 0 packets ++ drop packets out.old }
 {
     let whole = packets / WORD;
-    let mut k = 0;
-    while k < whole {
+    for k in 0..whole {
         put_word(out, WORD * k, words[k]);
-        k += 1;
     }
     if packets % WORD == 0 {
         return;
@@ -162,10 +150,8 @@ fn put_word(out: &mut [u8], at: usize, word: u64)
     requires { at + word_bits ≤ length out.old }
     ensures { out.new ≡ placed out.old at (bytes_of (one_at word) 0 word_bits) }
 {
-    let mut j = 0;
-    while j < 8 {
+    for j in 0..8 {
         put_eight(out, at + 8 * j, (word >> (8 * j)) % 256);
-        j += 1;
     }
 }
 
@@ -174,27 +160,17 @@ fn put_bits(out: &mut [u8], at: usize, n: usize, word: u64)
     requires { (at + n ≤ length out.old) × (n ≤ word_bits) }
     ensures { out.new ≡ placed out.old at (bytes_of (one_at word) 0 n) }
 {
-    let mut j = 0;
-    while j < n {
+    for j in 0..n {
         out[at + j] = ((word >> j) % 2) as u8;
-        j += 1;
     }
 }
 
-// The packets of eight bits: eight stores that the compiler makes one, as they are the bytes of one number in order.
+// The packets of eight bits, as the bytes of one number in order, which the compiler stores at once.
 fn put_eight(out: &mut [u8], at: usize, bits: u64)
     requires { (at + 8 ≤ length out.old) × (bits < 256) }
     ensures { out.new ≡ placed out.old at (bytes_of (one_at bits) 0 8) }
 {
-    let all = spread(bits);
-    out[at] = (all % 256) as u8;
-    out[at + 1] = (all / 256 % 256) as u8;
-    out[at + 2] = (all / 65_536 % 256) as u8;
-    out[at + 3] = (all / 16_777_216 % 256) as u8;
-    out[at + 4] = (all / 4_294_967_296 % 256) as u8;
-    out[at + 5] = (all / 1_099_511_627_776 % 256) as u8;
-    out[at + 6] = (all / 281_474_976_710_656 % 256) as u8;
-    out[at + 7] = (all / 72_057_594_037_927_936 % 256) as u8;
+    out[at..at + 8].copy_from_slice(&spread(bits).to_le_bytes());
 }
 
 // A number times this is seven copies of it, seven places apart.

@@ -12,8 +12,6 @@ use lib.ListN.{get_or}
 use lib.Seq.{ext_get_or}
 use Rattle.trace.specs.Sum.{bit, bits}
 use Rattle.trace.proofs.Sums.{bit_le, sum_both, up_to}
-use Rattle.batch.specs.declared.First.{First}
-use Rattle.batch.specs.declared.First.TheVariants.{At, None}
 use Rattle.batch.specs.Batches.{first_from}
 use Rattle.batch.proofs.Searching.{Meant, meant}
 use Rattle.resend.specs.Plans.{marked, marks, left, Valid, DifferFirst, Best}
@@ -22,6 +20,7 @@ use Rattle.resend.specs.Laws.{BestOne}
 use Rattle.resend.proofs.Ahead.{Held, held, ahead, sent_too}
 use Rattle.resend.proofs.Windows.{batches_held, held_batches}
 use Rattle.resend.proofs.Greedy.{plan_length, rule, mark_le}
+use Rattle.std.specs.Prelude.{Option, Some, None}
 
 -- a mark at a lost packet only: of such a packet, one of marked and left; of any other, neither
 lost_or : (x m : Bool) → (m ≡ true → x ≡ true) → bit x ≡ bit (x && not m) + bit m
@@ -105,9 +104,9 @@ best_one lost e b t p q bp bq = go (first_from differs e 0) (meant differs e 0)
     same : (i : ℕ) → differs i ≡ false → get_or p i 0 ≡ get_or q i 0
     same i h = eqb-true (get_or p i 0) (get_or q i 0) (not-false (eqb (get_or p i 0) (get_or q i 0)) h)
 
-    go : (r : First) → Meant differs e 0 r → p ≡ q
+    go : (r : Option ℕ) → Meant differs e 0 r → p ≡ q
     go None m = ext_get_or 0 p q (vp.plan.long ∙ sym vq.plan.long) (λ i h. same i (m i (omega arith) (omega (arith, vp.plan.long))))
-    go (At i) m =
+    go (Some i) m =
         let here = eqb-false (get_or p i 0) (get_or q i 0) (not-true (eqb (get_or p i 0) (get_or q i 0)) m.2) in
         let one = bp.first_difference q vq count i (omega arith) (record { before = λ j l. same j (m.3 j (omega arith) l); here = here }) in
         let two = bq.first_difference p vp (sym count) i (omega arith) (record { before = λ j l. sym (same j (m.3 j (omega arith) l)); here = λ z. here (sym z) }) in

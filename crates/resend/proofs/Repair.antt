@@ -14,7 +14,6 @@ use Rattle.trace.specs.Laws.{IsTrace}
 use Rattle.trace.proofs.Sums.{sum_same}
 use Rattle.trace.proofs.Events.{received_uncounted}
 use Rattle.trace.proofs.Judging.{accepted_trace, trace_accepted}
-use Rattle.batch.specs.declared.First.TheVariants.{None}
 use Rattle.batch.specs.Batches.{batches, losses_in, over_count}
 use Rattle.batch.specs.Loss.{loss_of}
 use Rattle.batch.proofs.Judging.{accepted}
@@ -23,6 +22,7 @@ use Rattle.batch.proofs.Answering.{measured}
 use Rattle.resend.specs.Plans.{marked, left, Valid, resent}
 use Rattle.resend.specs.Laws.{plan_in, PlanRepairs}
 use Rattle.resend.proofs.Answering.{plan_best}
+use Rattle.std.specs.Prelude.{None}
 
 -- a resent trace, packet by packet
 resent_length : (s p : List ℕ) → length (resent s p) ≡ length s

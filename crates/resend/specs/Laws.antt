@@ -1,17 +1,14 @@
 -- What callers may lean on, as statements about the definitions that `plan` promises, for every input. Proved in
 -- proofs/.
-use Rattle.std.specs.Prelude.{ℕ, ◌<◌, ◌≡◌, Bool, List, length, take}
+use Rattle.std.specs.Prelude.{ℕ, ◌<◌, ◌≡◌, Bool, List, length, take, Ok, Err, None}
 use Rattle.refusal.specs.declared.Refusal.{Refusal}
-use Rattle.refusal.specs.declared.Judged.{Judged}
 use Rattle.trace.specs.declared.Event.{Event}
 use Rattle.trace.specs.Trace.{counted_at, judged}
-use Rattle.batch.specs.declared.First.TheVariants.{None}
-use Rattle.batch.specs.declared.LossRead.TheVariants.{Loss}
 use Rattle.batch.specs.Batches.{batches}
 use Rattle.batch.specs.Loss.{loss_answer}
-use Rattle.resend.specs.declared.Planned.TheVariants.{Refused}
 use Rattle.resend.specs.Plans.{Best, resent}
 use Rattle.resend.specs.Answer.{plan_answer, buffer_after, Plannable, PlannedBest}
+use Rattle.refusal.specs.Answer.{Judged}
 
 -- Demand 3, wherever it is asked.
 abbrev pub PlanBest : Type 0
@@ -23,7 +20,7 @@ PlanBest =
 abbrev pub RefusedUnchanged : Type 0
 RefusedUnchanged =
     (verdict : Judged) (lost : ℕ → Bool) (e b t : ℕ) (buffer : List ℕ) (r : Refusal) →
-    plan_answer verdict lost e b t buffer ≡ Refused r → buffer_after verdict lost e b t buffer ≡ buffer
+    plan_answer verdict lost e b t buffer ≡ Err r → buffer_after verdict lost e b t buffer ≡ buffer
 
 -- The best plan is one: any two are the same.
 abbrev pub BestOne : Type 0
@@ -44,4 +41,4 @@ abbrev pub PlanRepairs : Type 0
 PlanRepairs =
     (event : Event) (s : List ℕ) (b t : ℕ) (buffer : List ℕ) → Plannable (judged s) (length s) b t buffer →
     let again = resent s (plan_in event s b t buffer) in
-    loss_answer (judged again) (counted_at event again) (length again) b t ≡ Loss record { over = 0; batches = batches (length s) b; index = 0; first = None }
+    loss_answer (judged again) (counted_at event again) (length again) b t ≡ Ok record { over = 0; batches = batches (length s) b; index = 0; first = None }

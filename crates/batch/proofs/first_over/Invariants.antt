@@ -1,20 +1,15 @@
 -- `batch::first_over` meets its contract. The invariant of both loops is `Under`, from the first batch on. Assumes nothing.
-use Prim.Native.Nat.{◌-◌, ◌≤◌}
+use Prim.Native.Nat.{◌-◌}
 use mathlib.Core.Path.{◌≡◌}
-use lib.ListN.{length}
-use Rattle.trace.specs.Trace.{counted_at}
-use Rattle.batch.specs.declared.First.TheVariants.{None}
+use Rattle.std.specs.Prelude.{None}
 use Rattle.batch.proofs.Loops.{Under}
 use Rattle.batch.proofs.first_over.Given as goal
 
-abbrev pub invariant-loop-start : goal.invariant-loop-start
-invariant-loop-start l = Under (counted_at l.event l.s) (length l.s) l.batch l.threshold 0 l.losses l.start × (l.first ≡ None) × (l.start ≤ l.end)
-
-abbrev pub decreases-loop-start : goal.decreases-loop-start
-decreases-loop-start l = l.end - l.start
+abbrev pub invariant-loop-k : goal.invariant-loop-k
+invariant-loop-k g l = Under (g.F.Form.lost l.form) (g.F.Form.extent l.form) l.batches.size l.batches.threshold 0 l.losses l.k × (l.first ≡ None)
 
 abbrev pub invariant-batches : goal.invariant-batches
-invariant-batches l = Under (counted_at l.event l.s) (length l.s) l.batch l.threshold 0 l.losses l.start × (l.first ≡ None)
+invariant-batches g l = Under (g.F.Form.lost l.form) (g.F.Form.extent l.form) l.batches.size l.batches.threshold 0 l.losses l.start × (l.first ≡ None)
 
 abbrev pub decreases-batches : goal.decreases-batches
-decreases-batches l = l.last - l.start
+decreases-batches g l = l.last - l.start

@@ -1,11 +1,10 @@
 -- `packed::judge` meets its contract. Each return is one of the cases of Judging.antt. Assumes nothing.
 use Prim.Native.Nat.{◌/◌, ◌%◌, ◌^◌, ◌≤◌, ◌<◌}
-use mathlib.Core.Path.{◌≡◌, sym, ap, ◌∙◌}
+use mathlib.Core.Path.{◌≡◌, sym, ◌∙◌}
 use mathlib.Core.Bool.{true}
 use native.Mathlib.Omega.{arith}
 use lib.Count.{count_trailing_zeros, trailing_le}
 use lib.ListN.{length, get_or}
-use Rattle.refusal.specs.declared.Judged.TheVariants.{Refused}
 use Rattle.trace.specs.Trace.{trace_max, packets_within}
 use Rattle.trace.proofs.Judging.{ranged}
 use Rattle.packed.specs.Words.{word_bits, words_for}
@@ -26,11 +25,6 @@ returns-then-packets-eq0 c =
     let enough : words_for c.args.packets ≤ length c.args.words.now = omega (arith, c.words_for.ensures) in
     filled _ _ range enough (omega arith)
 
-pub bounds-words-packets : goal.bounds-words-packets
-bounds-words-packets c =
-    let enough : words_for c.args.packets ≤ length c.args.words.now = omega (arith, c.words_for.ensures) in
-    omega (arith, enough)
-
 pub returns-then-past-eq0 : goal.returns-then-past-eq0
 returns-then-past-eq0 c =
     let range : packets_within trace_max c.args.packets ≡ true = sym c.in_range.ensures ∙ c.if-not-in_range.false in
@@ -38,13 +32,8 @@ returns-then-past-eq0 c =
     let word_fits : get_or c.args.words.now (c.args.packets / word_bits) 0 < 2 ^ 64 = let a = c.args in omega (arith, c.type_inv.words (a.packets / word_bits)) in
     let a = c.args in zeros a.words.now a.packets range enough (omega arith) word_fits (omega arith)
 
-pub overflow_cast-past : goal.overflow_cast-past
-overflow_cast-past c =
-    let few : count_trailing_zeros 64 (get_or c.args.words.now (c.args.packets / word_bits) 0 / 2 ^ (c.args.packets % word_bits)) ≤ 64 = trailing_le 64 _ in
-    omega (arith, few)
-
-pub overflow_add-packets : goal.overflow_add-packets
-overflow_add-packets c =
+pub overflow_add-result : goal.overflow_add-result
+overflow_add-result c =
     let range : packets_within trace_max c.args.packets ≡ true = sym c.in_range.ensures ∙ c.if-not-in_range.false in
     let few : count_trailing_zeros 64 (get_or c.args.words.now (c.args.packets / word_bits) 0 / 2 ^ (c.args.packets % word_bits)) ≤ 64 = trailing_le 64 _ in
     omega (arith, few, ranged trace_max _ range)
@@ -54,4 +43,4 @@ returns c =
     let range : packets_within trace_max c.args.packets ≡ true = sym c.in_range.ensures ∙ c.if-not-in_range.false in
     let enough : words_for c.args.packets ≤ length c.args.words.now = omega (arith, c.words_for.ensures) in
     let word_fits : get_or c.args.words.now (c.args.packets / word_bits) 0 < 2 ^ 64 = let a = c.args in omega (arith, c.type_inv.words (a.packets / word_bits)) in
-    let a = c.args in ap Refused c.trace_byte.ensures ∙ some_one a.words.now a.packets range enough (omega arith) word_fits (omega arith)
+    let a = c.args in some_one a.words.now a.packets range enough (omega arith) word_fits (omega arith)

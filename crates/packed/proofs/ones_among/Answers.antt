@@ -5,7 +5,7 @@ use native.Mathlib.Omega.{arith}
 use lib.Bits.{bit_and}
 use Rattle.trace.specs.Sum.{count}
 use Rattle.packed.specs.Words.{word_bits, one_at, one_in}
-use Rattle.packed.proofs.Counts.{window_count, front_count, mask_some}
+use Rattle.packed.proofs.Counts.{window_count, front_count}
 use Rattle.packed.proofs.ones_among.Goals as goal
 
 pub returns-then-n-ge-WORD : goal.returns-then-n-ge-WORD
@@ -14,9 +14,6 @@ returns-then-n-ge-WORD c =
     let all : min a.n word_bits ≡ word_bits = omega arith in
     c.ones.ensures ∙ ap (λ (x : ℕ). count (one_at x) 0 word_bits) c.window.ensures
     ∙ window_count (one_in a.words.now) a.i word_bits (omega arith) ∙ ap (count (one_in a.words.now) a.i) (sym all)
-
-pub overflow_sub-n : goal.overflow_sub-n
-overflow_sub-n c = mask_some _ (omega arith)
 
 pub returns : goal.returns
 returns c =

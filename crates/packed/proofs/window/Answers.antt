@@ -15,4 +15,4 @@ pub returns-then-skipped-eq0 : goal.returns-then-skipped-eq0
 returns-then-skipped-eq0 c = let a = c.args in window_aligned a.words.now a.i (omega (arith, c.type_inv.words (a.i / word_bits))) (omega arith)
 
 pub returns : goal.returns
-returns c = let a = c.args in window_both a.words.now a.i (omega (arith, c.shared_slice_known-2-1.given (a.i / word_bits)))
+returns c = let a = c.args in window_both a.words.now a.i (omega (arith, c.type_inv.words (a.i / word_bits)))

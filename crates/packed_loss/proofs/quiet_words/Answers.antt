@@ -15,8 +15,10 @@ loop-q-preserved c =
     let q = c.loop-q.q in
     quiet_more _ _ _ 1 c.loop-q.invariant (omega arith) (λ k l m. let here : k ≡ q = omega arith in ap (λ (j : ℕ). get_or a.w.now j 0) here ∙ omega arith)
 
-pub returns-after-loop-q : goal.returns-after-loop-q
-returns-after-loop-q c = c.loop-q.invariant
-
 pub returns-then-w-q-ne0 : goal.returns-then-w-q-ne0
 returns-then-w-q-ne0 c = c.loop-q.invariant
+
+pub returns : goal.returns
+returns c =
+    let quiet = c.loop-q.invariant in
+    record { onward = omega arith; most = omega arith; zero = λ k l m. quiet.zero k l (omega arith) }
