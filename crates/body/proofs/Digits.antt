@@ -8,8 +8,8 @@ use native.Mathlib.Omega.{arith}
 use borrow.Author.Tests.{le-leb, lt-leb}
 use lib.ListN.{length, drop, get_or, drop_of_length-le}
 use lib.Seq.{drop-cons}
-use Rattle.body.specs.declared.Number.TheVariants.{Is, Nothing}
 use Rattle.body.specs.Number.{number_from}
+use Rattle.std.specs.Prelude.{Some, None}
 
 module _ (text : List ℕ) (n i : ℕ) where
   pub goes_on : i < length text → 48 ≤ get_or text i 0 → get_or text i 0 ≤ 57 →
@@ -17,15 +17,15 @@ module _ (text : List ℕ) (n i : ℕ) where
   unfolding number_from
   goes_on h low high = rw (drop-cons text i 0 h, add-one, le-leb _ _ low, le-leb _ _ high)
 
-  pub too_low : i < length text → get_or text i 0 < 48 → number_from n (drop i text) ≡ Nothing
+  pub too_low : i < length text → get_or text i 0 < 48 → number_from n (drop i text) ≡ None
   unfolding number_from
   too_low h low = rw (drop-cons text i 0 h, lt-leb _ _ low)
 
-  pub too_high : i < length text → 57 < get_or text i 0 → number_from n (drop i text) ≡ Nothing
+  pub too_high : i < length text → 57 < get_or text i 0 → number_from n (drop i text) ≡ None
   unfolding number_from
   too_high h high = rw (drop-cons text i 0 h, lt-leb _ _ high, le-leb 48 (get_or text i 0) (omega arith))
 
-  pub ends : length text ≤ i → number_from n (drop i text) ≡ Is n
+  pub ends : length text ≤ i → number_from n (drop i text) ≡ Some n
   unfolding number_from
   ends h = rw (drop_of_length-le text h)
 

@@ -16,39 +16,26 @@ const MOST: u64 = 65_536;
 // The most digits of a block's number: more than the blocks of a packet need.
 const DIGITS: usize = 6;
 
-// What a text says as a decimal number.
-#[derive(Clone, Copy)]
-enum Number {
-    Is(usize),
-    Nothing,
+fn main(rt: HostRuntime) -> io::Result<()> {
+    match asked(&rt) {
+        Some(index) => show(&rt, index),
+        None => rt.write_all(b"usage: body NUMBER < PACKET\n"),
+    }
 }
 
-// An argument of more than DIGITS bytes is no number.
-fn main(rt: HostRuntime) -> io::Result<()> {
-    if has_argument(&rt, 2) {
-        return usage(&rt);
+// The number of the one argument. An argument of more than DIGITS bytes is no number.
+fn asked(env: &impl Env) -> Option<usize> {
+    if has_argument(env, 2) {
+        return None;
     }
     let mut digits = [0u8; DIGITS];
-    match rt.arg(1, &mut digits) {
-        Ok(n) => show_block(&rt, number_in(&digits[..n])),
-        Err(_) => usage(&rt),
-    }
+    let n = env.arg(1, &mut digits).ok()?;
+    number_in(&digits[..n])
 }
 
 // Whether there is an argument i; 0 is the program's own name.
 fn has_argument(env: &impl Env, i: usize) -> bool {
     !matches!(env.arg(i, &mut [0u8; 1]), Err(FillError::NotPresent))
-}
-
-fn usage(rt: &impl Print) -> io::Result<()> {
-    rt.write_all(b"usage: body NUMBER < PACKET\n")
-}
-
-fn show_block(rt: &(impl Input + Print), number: Number) -> io::Result<()> {
-    match number {
-        Number::Is(index) => show(rt, index),
-        Number::Nothing => usage(rt),
-    }
 }
 
 fn show(rt: &(impl Input + Print), index: usize) -> io::Result<()> {
@@ -62,33 +49,18 @@ fn show(rt: &(impl Input + Print), index: usize) -> io::Result<()> {
 
 // The number of a text of one to six decimal digits; any other text has none.
 #[tactic(auto, using(crate::proofs::Digits::by_digits), unfolding(crate::specs::Number::number_of))]
-fn number_in(text: &[u8]) -> Number
+fn number_in(text: &[u8]) -> Option<usize>
     ensures { result ≡ number_of text.now }
 {
-    if text.len() == 0 {
-        return Number::Nothing;
-    }
-    if DIGITS < text.len() {
-        return Number::Nothing;
+    if text.is_empty() || DIGITS < text.len() {
+        return None;
     }
     let mut n = 0;
-    let mut i = 0;
-    while i < text.len() {
-        let c = text[i];
-        if c < b'0' {
-            return Number::Nothing;
+    for &c in text {
+        if !c.is_ascii_digit() {
+            return None;
         }
-        if b'9' < c {
-            return Number::Nothing;
-        }
-        n = 10 * n + wide(c - b'0');
-        i += 1;
+        n = 10 * n + (c - b'0') as usize;
     }
-    Number::Is(n)
-}
-
-fn wide(x: u8) -> usize
-    ensures { result ≡ x }
-{
-    x as usize
+    Some(n)
 }

@@ -3,9 +3,6 @@
 // `too long`. A line's end is no part of its card. A read or a write that fails ends the program with its error.
 #![tactic(auto)]
 
-ghost use Rattle.std.specs.Prelude.{◌≤◌, length};
-
-use card::CardRead;
 use refusal::Refusal;
 use settings::Settings;
 use std::io;
@@ -22,57 +19,32 @@ fn main(rt: HostRuntime) -> io::Result<()> {
 
 // Each line of the input.
 fn list(rt: &impl Print, input: &[u8]) -> io::Result<()> {
-    let mut start = 0;
-    while start < input.len() {
-        let end = line_end(input, start);
-        show(rt, &input[start..end])?;
-        start = end + 1;
+    for line in input.split_inclusive(|b| *b == b'\n') {
+        show(rt, line.strip_suffix(b"\n").unwrap_or(line))?;
     }
     Ok(())
 }
 
-// Where the line that starts at start ends: at its newline, or at the end of the input.
-fn line_end(input: &[u8], start: usize) -> usize
-    requires { start ≤ length input.now }
-    ensures { (start ≤ result) × (result ≤ length input.now) }
-{
-    let mut i = start;
-    while i < input.len() {
-        if input[i] == b'\n' {
-            return i;
-        }
-        i += 1;
-    }
-    i
-}
-
 fn show(rt: &impl Print, line: &[u8]) -> io::Result<()> {
-    match card::read(line) {
-        CardRead::Accepted(settings) => show_settings(rt, settings),
-        CardRead::Refused(refusal) => show_refusal(rt, refusal),
+    let mut card = [0; card::CARD_LENGTH];
+    match write_again(line, &mut card) {
+        Ok(settings) => show_settings(rt, settings, &card),
+        Err(why) => println!(rt; "{why}"),
     }
 }
 
-fn show_settings(rt: &impl Print, s: Settings) -> io::Result<()> {
-    let mut digits = [0u8; 20];
-    card::write(s, &mut digits);
+// The settings on a card, which are written as a card into out.
+fn write_again(line: &[u8], out: &mut [u8]) -> Result<Settings, Refusal> {
+    let settings = card::read(line)?;
+    card::write(settings, out)?;
+    Ok(settings)
+}
+
+fn show_settings(rt: &impl Print, s: Settings, card: &[u8]) -> io::Result<()> {
     rt.write_all(b"card ")?;
-    rt.write_all(&digits)?;
-    show_number(rt, b" gmin ", s.gmin)?;
-    show_number(rt, b" batch ", s.batch)?;
-    show_number(rt, b" threshold ", s.threshold)?;
-    show_number(rt, b" spacing ", s.spacing)?;
-    rt.write_all(b"\n")
-}
-
-fn show_number(rt: &impl Print, label: &[u8], n: u32) -> io::Result<()> {
-    rt.write_all(label)?;
-    rt.print(n)
-}
-
-fn show_refusal(rt: &impl Print, r: Refusal) -> io::Result<()> {
-    show_number(rt, b"refused ", r.number)?;
-    rt.write_all(b" at ")?;
-    rt.print(r.place)?;
-    rt.write_all(b"\n")
+    rt.write_all(card)?;
+    println!(rt;
+        " gmin {} batch {} threshold {} spacing {}",
+        s.gmin, s.batch, s.threshold, s.spacing
+    )
 }

@@ -1,6 +1,7 @@
 -- The panel setting of a block: document 02, ticket 4. "The panel shows only a block 17 or 18 that refusal 16 lets through;
 -- anything else, dropped blocks included, leaves both needles dark. The lamp is on exactly when at least one needle is lit."
-use Rattle.std.specs.Prelude.{ℕ, Bool, true, false, cond, ◌||◌, leb}
+use Rattle.std.specs.Prelude.{ℕ, Bool, true, false, cond, ◌||◌, leb, Result, Ok, Err}
+use Rattle.refusal.specs.declared.Refusal.{Refusal}
 use Rattle.refusal.specs.Answer.{unless}
 use Rattle.block.specs.Reading.{rate_max, summary_good}
 use Rattle.block.specs.declared.Block.{Block}
@@ -8,7 +9,6 @@ use Rattle.block.specs.declared.Block.TheVariants.{Measured, Loss, Discard, Effe
 use Rattle.block.specs.declared.BlockRead.{BlockRead}
 use Rattle.block.specs.declared.BlockRead.TheVariants.{Typed, Rle, Unknown, Dropped}
 use Rattle.packet.specs.declared.BlockAt.{BlockAt}
-use Rattle.packet.specs.declared.BlockAt.TheVariants.{Found, Refused}
 use Rattle.dials.specs.declared.Needle.{Needle}
 use Rattle.dials.specs.declared.Needle.TheVariants.{Lit, Dark}
 use Rattle.dials.specs.declared.Panel.{Panel}
@@ -44,9 +44,9 @@ panel_read Unknown = dark
 panel_read (Dropped reason) = dark
 
 -- of a block of a packet
-abbrev pub panel_at : BlockAt → Panel
-panel_at (Found type read) = panel_read read
-panel_at (Refused r) = dark
+abbrev pub panel_at : Result BlockAt Refusal → Panel
+panel_at (Ok block) = panel_read block.read
+panel_at (Err r) = dark
 
 abbrev pub is_lit : Needle → Bool
 is_lit (Lit x) = true

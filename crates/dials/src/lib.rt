@@ -8,17 +8,17 @@ ghost use Rattle.packet.specs.Answers.{block_of};
 ghost use Rattle.dials.specs.Panel.{needle_of, dark, summary_panel, panel_of, panel_read, panel_at, is_lit, lamp_of};
 
 use block::{Block, BlockRead};
-use packet::BlockAt;
 
-// A needle: lit at its position, or dark.
-#[derive(Clone, Copy)]
+// A needle: lit at its position, or dark. Not an Option: document 01, "Required forms by place", names an enum with a case Lit that
+// carries an f32 and a case Dark.
+#[derive(Clone, Copy, Debug, PartialEq)]
 pub enum Needle {
     Lit(f32),
     Dark,
 }
 
 // The panel setting.
-#[derive(Clone, Copy)]
+#[derive(Clone, Copy, Debug, PartialEq)]
 pub struct Panel {
     pub burst: Needle,
     pub gap: Needle,
@@ -37,8 +37,8 @@ pub fn of_packet(packet: &[u8], index: usize) -> Panel
     ensures { result ≡ panel_at (block_of (packet_of packet.now) index) }
 {
     match packet::block(packet, index) {
-        BlockAt::Found(_, read) => of_read(read),
-        BlockAt::Refused(_) => DARK,
+        Ok(block) => of_read(block.read),
+        Err(_) => DARK,
     }
 }
 
@@ -68,6 +68,7 @@ pub fn of_block(b: Block) -> Panel
 }
 
 // The panel of a 17 or 18 with this interval flag and these rates.
+#[tactic(auto, unfolding(crate::specs::Panel::summary_panel))]
 pub fn of_summary(flag: u8, burst_rate: u16, gap_rate: u16) -> Panel
     ensures { result ≡ summary_panel flag burst_rate gap_rate }
 {
@@ -94,16 +95,11 @@ fn needle_at(rate: u16) -> Needle
 pub fn lamp(p: Panel) -> bool
     ensures { result ≡ lamp_of p }
 {
-    let burst = p.burst;
-    let gap = p.gap;
-    is_lit(burst) | is_lit(gap)
+    is_lit(p.burst) || is_lit(p.gap)
 }
 
 fn is_lit(n: Needle) -> bool
     ensures { result ≡ is_lit n }
 {
-    match n {
-        Needle::Lit(_) => true,
-        Needle::Dark => false,
-    }
+    matches!(n, Needle::Lit(_))
 }

@@ -1,45 +1,42 @@
 // A label with a number, a source or a figure behind it, put into a page: what the lines of a listing are made of.
-// Document 01, "Sheet of examples". Each call puts its text from position at on and answers where it ends.
-#![tactic(auto, using(text::proofs::Joined::joining), unfolding(crate::specs::Labels::number, crate::specs::Labels::source, crate::specs::Labels::figure))]
+// Document 01, "Sheet of examples". Each call puts its text where the page goes on. The three calls share the label alone: what
+// stands behind it is written in a way of its own, so that one generic call would need a trait for two lines.
+#![tactic(auto, using(text::proofs::Joined::joined_in_page), unfolding(crate::specs::Labels::number, crate::specs::Labels::source, crate::specs::Labels::figure))]
 
 ghost use Rattle.std.specs.Prelude.{◌≡◌};
-ghost use Rattle.text.specs.Page.{put_at, end_at};
+ghost use Rattle.text.specs.Page.{put_in};
 ghost use Rattle.labels.specs.Labels.{number, source, figure};
 
 use block::UNAVAILABLE;
+use text::Page;
 
 // A 16-bit figure that is over range.
 const OVER: u16 = 65_534;
 
 // A label and a number.
-pub fn put_number(page: &mut [u8], at: usize, label: &[u8], n: u64) -> usize
-    ensures answer { result ≡ end_at page.old at (number label.now n) }
-    ensures buffer { page.new ≡ put_at page.old at (number label.now n) }
+pub fn put_number(page: &mut Page, label: &[u8], n: u64)
+    ensures { page.new ≡ put_in page.old (number label.now n) }
 {
-    let a = text::put(page, at, label);
-    text::put_decimal(page, a, n)
+    page.put(label);
+    page.put_decimal(n);
 }
 
 // A label and a source, eight hexadecimal digits.
-pub fn put_source(page: &mut [u8], at: usize, label: &[u8], n: u32) -> usize
-    ensures answer { result ≡ end_at page.old at (source label.now n) }
-    ensures buffer { page.new ≡ put_at page.old at (source label.now n) }
+pub fn put_source(page: &mut Page, label: &[u8], n: u32)
+    ensures { page.new ≡ put_in page.old (source label.now n) }
 {
-    let a = text::put(page, at, label);
-    text::put_hex(page, a, n)
+    page.put(label);
+    page.put_hex(n);
 }
 
 // A label and a figure: a number, over range, or none.
-pub fn put_figure(page: &mut [u8], at: usize, label: &[u8], n: u16) -> usize
-    ensures answer { result ≡ end_at page.old at (figure label.now n) }
-    ensures buffer { page.new ≡ put_at page.old at (figure label.now n) }
+pub fn put_figure(page: &mut Page, label: &[u8], n: u16)
+    ensures { page.new ≡ put_in page.old (figure label.now n) }
 {
-    let a = text::put(page, at, label);
-    if n == OVER {
-        return text::put(page, a, b"over");
+    page.put(label);
+    match n {
+        OVER => page.put(b"over"),
+        UNAVAILABLE => page.put(b"none"),
+        _ => page.put_decimal(n as u64),
     }
-    if n == UNAVAILABLE {
-        return text::put(page, a, b"none");
-    }
-    text::put_decimal(page, a, n as u64)
 }

@@ -3,8 +3,10 @@ use Prim.Native.Nat.{◌≤◌}
 use mathlib.Core.Path.{refl}
 use native.Mathlib.Omega.{arith}
 use lib.ListN.{length, length-append}
+use Rattle.refusal.specs.Table.{refusal_number, refusal_place}
 use Rattle.block.specs.declared.LossRle.{LossRle}
 use Rattle.block.specs.declared.BlockRead.TheVariants.{Typed, Rle, Unknown, Dropped}
+use Rattle.block.specs.Types.{reason_number}
 use Rattle.text.specs.Text.{decimal_most}
 use Rattle.text.proofs.Digits.{length_decimal}
 use Rattle.labels.specs.Words as words
@@ -39,11 +41,11 @@ block_fits k kind size (Dropped d) =
       arith,
       length_decimal decimal_most k,
       number_most words.dropped_type 14 refl kind,
-      number_most words.reason 8 refl d,
+      number_most words.reason 8 refl (reason_number d),
     ))
 
 pub head_fits : HeadFits
 head_fits sender count = simp length-append (omega (arith, source_most words.ssrc 5 refl sender, number_most words.blocks 8 refl count))
 
 pub refusal_fits : RefusalFits
-refusal_fits r = simp length-append (omega (arith, number_most words.refused 8 refl r.number, number_most words.place 4 refl r.place))
+refusal_fits r = simp length-append (omega (arith, number_most words.refused 8 refl (refusal_number r), number_most words.place 4 refl (refusal_place r)))

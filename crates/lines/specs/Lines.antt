@@ -2,9 +2,11 @@
 -- lower-case hex digits, D the reason's number alone (4 for D4), `bytes n` counts the body, the rest decimal."
 use Rattle.std.specs.Prelude.{ℕ, List, ◌++◌}
 use Rattle.refusal.specs.declared.Refusal.{Refusal}
+use Rattle.refusal.specs.Table.{refusal_number, refusal_place}
 use Rattle.block.specs.declared.LossRle.{LossRle}
 use Rattle.block.specs.declared.BlockRead.{BlockRead}
 use Rattle.block.specs.declared.BlockRead.TheVariants.{Typed, Rle, Unknown, Dropped}
+use Rattle.block.specs.Types.{reason_number}
 use Rattle.text.specs.Text.{decimal_of}
 use Rattle.labels.specs.Words as words
 use Rattle.labels.specs.Labels.{number, source}
@@ -24,7 +26,7 @@ abbrev pub block_line : ℕ → ℕ → ℕ → BlockRead → List ℕ
 block_line k kind size (Typed b) = decimal_of k ++ typed_text b ++ words.newline
 block_line k kind size (Rle r) = decimal_of k ++ rle_text r ++ words.newline
 block_line k kind size Unknown = decimal_of k ++ number words.unknown_type kind ++ number words.bytes size ++ words.newline
-block_line k kind size (Dropped d) = decimal_of k ++ number words.dropped_type kind ++ number words.reason d ++ words.newline
+block_line k kind size (Dropped d) = decimal_of k ++ number words.dropped_type kind ++ number words.reason (reason_number d) ++ words.newline
 
 -- `ssrc SSSSSSSS blocks n`
 abbrev pub head_line : ℕ → ℕ → List ℕ
@@ -32,4 +34,4 @@ head_line sender count = source words.ssrc sender ++ number words.blocks count +
 
 -- `refused N at P`
 abbrev pub refusal_line : Refusal → List ℕ
-refusal_line r = number words.refused r.number ++ number words.place r.place ++ words.newline
+refusal_line r = number words.refused (refusal_number r) ++ number words.place (refusal_place r) ++ words.newline

@@ -8,9 +8,9 @@ use native.Mathlib.Decide.{dec_le}
 use native.Mathlib.Nat.{min-le_left}
 use lib.ListN.{length, take, drop, length-append}
 use lib.Seq.{paste, take-paste, drop-paste, drop-drop, take_all, take-append-le, take-append-add}
-use Rattle.text.specs.Page.{fitting, end_at, put_at}
-use Rattle.text.specs.Laws.{Put, Joined}
-use Rattle.text.proofs.Room.{length_put, put_past, end_past, end_inside}
+use Rattle.text.specs.Page.{fitting, end_at, put_at, put_in}
+use Rattle.text.specs.Laws.{Joined, JoinedInPage}
+use Rattle.text.proofs.Room.{length_put, put_past, end_past}
 
 -- the bytes put of two texts are those of the joined text: all of a, or none of b
 texts : (a b : List ℕ) (room n m k : ℕ) → n ≡ min (length a) room → m ≡ min (length b) (room - n) → k ≡ min (length a + length b) room →
@@ -75,19 +75,10 @@ module _ (page : List ℕ) (at : ℕ) (a b : List ℕ) where
           let stays = end_past page at a (omega arith) in
           rw (← same, ← stays) (sym (put_past page at b (omega arith)) ∙ put_past page at (a ++ b) (omega arith))
 
--- the two, for the attribute of a crate that puts one text after another
-pub ruleset joining = (end_joined, put_joined)
-
 pub joined : Joined
 joined page after last at end stop a b first second =
     (second.0 ∙ rw (first.0, first.1) (end_joined page at a b), second.1 ∙ rw (first.0, first.1) (put_joined page at a b))
 
--- a text put, by another name, and the page's length after it
-pub same_text : (page after : List ℕ) (at end : ℕ) (a b : List ℕ) → a ≡ b → Put page at after end a → Put page at after end b
-same_text page after at end a b e put = (put.0 ∙ ap (end_at page at) e, put.1 ∙ ap (put_at page at) e)
-
-pub keeps_length : (page after : List ℕ) (at end : ℕ) (a : List ℕ) → Put page at after end a → length after ≡ length page
-keeps_length page after at end a put = ap length put.1 ∙ length_put page at a
-
-pub put_inside : (page after : List ℕ) (at end : ℕ) (a : List ℕ) → Put page at after end a → at ≤ length page → end ≤ length after
-put_inside page after at end a put h = rw (put.0, keeps_length page after at end a put) (end_inside page at a h)
+pub joined_in_page : JoinedInPage
+unfolding put_in
+joined_in_page page first second = rw (end_joined page.bytes.now page.at first second, put_joined page.bytes.now page.at first second)

@@ -1,43 +1,38 @@
--- What is left of `listing::list_blocks`: in a turn the table has two more numbers, and a block stands at its place, ends
--- inside and leads to the next. Assumes nothing.
-use Rattle.std.proofs.Common.{◌∙◌, arith}
-use Rattle.frame.proofs.Blocks.{block_next}
-use Rattle.text.proofs.Joined.{keeps_length, put_inside}
-use Rattle.listing.proofs.Walking.{walk_start, walk_fits, walk_room, walk_verdict, walk_next}
+-- What is left of `listing::list_blocks`: in a turn the table has two more numbers, and a block stands at its place and fits.
+-- Assumes nothing.
+use Rattle.std.proofs.Common.{arith}
+use Rattle.listing.proofs.Walking.{walk_start, walk_room, walk_fits, walk_verdict, walk_next, still_roomy, added_roomy}
 use Rattle.listing.proofs.list_blocks.Goals as goal
 
-pub loop-at-init : goal.loop-at-init
-loop-at-init g c =
-    let head = c.put_head-end.ensures in
-    (walk_start _ _ c.requires.0, put_inside _ _ _ _ _ (head.answer, head.buffer) (omega arith), keeps_length _ _ _ _ _ (head.answer, head.buffer))
+pub loop-k-init : goal.loop-k-init
+loop-k-init g c =
+    (walk_start _ _ _ c.requires.0 c.requires.1, still_roomy _ _ _ c.put_head.ensures c.requires.2)
 
 pub overflow_mul-k : goal.overflow_mul-k
-overflow_mul-k g c = omega (arith, walk_room _ _ _ _ c.loop-at.invariant.0 c.loop-at-test.true)
-
-pub overflow_add-k : goal.overflow_add-k
-overflow_add-k g c = omega (arith, walk_room _ _ _ _ c.loop-at.invariant.0 c.loop-at-test.true)
+overflow_mul-k g c = omega (arith, walk_room _ _ _ _ c.loop-k.invariant.0 c.loop-k-test.true)
 
 pub offset_bounds-table-k : goal.offset_bounds-table-k
-offset_bounds-table-k g c = omega (arith, walk_room _ _ _ _ c.loop-at.invariant.0 c.loop-at-test.true)
+offset_bounds-table-k g c = omega (arith, walk_room _ _ _ _ c.loop-k.invariant.0 c.loop-k-test.true)
 
 pub bounds-table-k : goal.bounds-table-k
-bounds-table-k g c = omega (arith, walk_room _ _ _ _ c.loop-at.invariant.0 c.loop-at-test.true)
+bounds-table-k g c = omega (arith, walk_room _ _ _ _ c.loop-k.invariant.0 c.loop-k-test.true)
 
-pub put_line-end-requires : goal.put_line-end-requires
-put_line-end-requires g c =
-    let walk = c.loop-at.invariant.0 in
-    (walk_fits _ _ _ _ walk c.loop-at-test.true, walk_verdict _ _ _ _ walk c.loop-at-test.true, c.in_ok-end.ensures.ok)
+pub overflow_mul-k-in-loop-k : goal.overflow_mul-k-in-loop-k
+overflow_mul-k-in-loop-k g c = omega (arith, walk_room _ _ _ _ c.loop-k.invariant.0 c.loop-k-test.true)
 
-pub overflow_add-k-in-loop-at : goal.overflow_add-k-in-loop-at
-overflow_add-k-in-loop-at g c = omega (arith, walk_room _ _ _ _ c.loop-at.invariant.0 c.loop-at-test.true)
+pub overflow_add-k : goal.overflow_add-k
+overflow_add-k g c = omega (arith, walk_room _ _ _ _ c.loop-k.invariant.0 c.loop-k-test.true)
 
-pub loop-at-smaller : goal.loop-at-smaller
-loop-at-smaller g c =
-    omega (arith, block_next _ _ _ (walk_fits _ _ _ _ c.loop-at.invariant.0 c.loop-at-test.true) c.block_at-bytes.ensures.part)
+pub offset_bounds-table-k-in-loop-k : goal.offset_bounds-table-k-in-loop-k
+offset_bounds-table-k-in-loop-k g c = omega (arith, walk_room _ _ _ _ c.loop-k.invariant.0 c.loop-k-test.true)
 
-pub loop-at-preserved : goal.loop-at-preserved
-loop-at-preserved g c =
-    let walk = c.loop-at.invariant.0 in
-    let next = block_next _ _ _ (walk_fits _ _ _ _ walk c.loop-at-test.true) c.block_at-bytes.ensures.part in
-    let put = c.put_line-end.ensures in
-    (walk_next _ _ _ _ walk c.loop-at-test.true _ next, omega (arith, put.inside, put.long), put.long ∙ c.loop-at.invariant.2)
+pub bounds-table-k-in-loop-k : goal.bounds-table-k-in-loop-k
+bounds-table-k-in-loop-k g c = omega (arith, walk_room _ _ _ _ c.loop-k.invariant.0 c.loop-k-test.true)
+
+pub put_line-requires : goal.put_line-requires
+put_line-requires g c =
+    (walk_fits _ _ _ _ c.loop-k.invariant.0 c.loop-k-test.true, walk_verdict _ _ _ _ c.loop-k.invariant.0 c.loop-k-test.true, c.in_ok-make_room.ensures.ok)
+
+pub loop-k-preserved : goal.loop-k-preserved
+loop-k-preserved g c =
+    (walk_next _ _ _ _ c.loop-k.invariant.0 c.loop-k-test.true, added_roomy _ _ _ c.put_line.ensures c.in_ok-make_room.ensures.ok)

@@ -1,7 +1,7 @@
 -- What is left of `listing::put_line`: the block is there, and what is put is its line. Assumes nothing.
-use Rattle.std.proofs.Common.{arith}
+use Rattle.std.proofs.Common.{arith, ap, ◌∙◌}
 use Rattle.frame.proofs.Blocks.{block_next}
-use Rattle.text.proofs.Joined.{same_text}
+use Rattle.text.specs.Page.{put_in}
 use Rattle.listing.proofs.Walking.{line_text, line_fits, added}
 use Rattle.listing.proofs.put_line.Goals as goal
 
@@ -14,4 +14,4 @@ overflow_sub-bytes c = omega (arith, block_next _ _ _ c.requires.0 c.block_at-by
 pub returns : goal.returns
 returns c =
     let text = line_text _ _ c.args.k _ _ _ _ c.requires.0 c.block_at-bytes.ensures.part c.requires.1 c.read_bytes.ensures c.judged-read.ensures in
-    added _ _ _ _ _ (same_text _ _ _ _ _ _ text (c.put_block.ensures.answer, c.put_block.ensures.buffer)) c.requires.2 (line_fits _ _ _)
+    added _ _ _ (c.put_block.ensures ∙ ap (put_in _) text) c.requires.2 (line_fits _ _ _)

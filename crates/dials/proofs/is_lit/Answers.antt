@@ -1,8 +1,0 @@
--- `dials::is_lit` meets its contract: each arm is a case of the definition. Assumes nothing.
-use Rattle.dials.proofs.is_lit.Goals as goal
-
-pub returns-in-Lit : goal.returns-in-Lit
-returns-in-Lit c = rw c.in-Lit.is
-
-pub returns-in-Dark : goal.returns-in-Dark
-returns-in-Dark c = rw c.in-Dark.is
