@@ -6,10 +6,6 @@ above an item belongs to it, up to its first empty line; a line `// C: NAME` in 
 import pathlib
 import re
 
-# The constants of crate block that number the reasons to drop a block.
-REASONS = ["BAD_SIZE", "BAD_FLAG", "BAD_RATE", "UNMEASURED", "BAD_CHUNKS"]
-
-
 class Struct:
     def __init__(self, name, c_name, text, fields):
         self.name, self.c_name, self.text, self.fields = name, c_name, text, fields  # fields: (name, type, comment)
@@ -34,17 +30,19 @@ class Source:
         self.calls = [call for crate in exporting for call in self._calls(crate)]
         self.structs = {s.name: s for crate in self.files for s in self._structs(crate)}
         self.by_c_name = {s.c_name: s for s in self.structs.values()}
-        self.refusals = self._refusals()
+        self.refusals = self._numbered("refusal", r"^            Refusal::(\w+)(?:\(_\))? => (\d+),$")
         readme = (root / "README.md").read_text()
         self.refusal_words = _table(readme, "| N | Meaning | What to do |")
         self.reason_words = _table(readme, "| Reason | Meaning | What to do |")
-        self.reasons = [(name, self.constant("block::" + name)[0]) for name in REASONS]
+        self.reasons = self._numbered("block", r"^    (\w+) = (\d+),$")
         self.places = _places((root / "crates/block/specs/Fields.antt").read_text(),
                               (root / "crates/ffi_block/specs/Answers.antt").read_text())
 
     def constant(self, expression):
-        """The value of an expression over constants `crate::NAME`, as (number, Rattle type of the last one named)."""
+        """The value of an expression over constants `crate::NAME` and numbered variants `crate::Enum::Variant`, as (number, Rattle
+        type of the last constant named)."""
         kind = None
+        expression = re.sub(r"(\w+)::([A-Z]\w*)::(\w+)", self._variant, expression)
 
         def value(match):
             nonlocal kind
@@ -59,6 +57,13 @@ class Source:
             return str(number)
 
         return eval(re.sub(r"(\w+)::([A-Z]\w*)", value, expression), {"__builtins__": {}}), kind
+
+    def _variant(self, match):
+        crate, enum, variant = match.groups()
+        found = re.search(r"enum %s \{\n(?:    .*\n)*?    %s = (\d+)," % (enum, variant), self.files[crate])
+        if not found:
+            raise SystemExit(f"no variant {crate}::{enum}::{variant} with a number")
+        return found[1]
 
     def _structs(self, crate):
         pattern = r"((?:// [^\n]*\n|//\n)+)((?:#\[[^\n]*\]\n)+)pub struct (\w+) \{\n(.*?)\n\}"
@@ -83,13 +88,17 @@ class Source:
             split = [p.strip().split(": ", 1) for p in params.split(",") if p.strip()]
             yield Call(crate, name, _text(comment), [tuple(p) for p in split], answer, promise)
 
-    def _refusals(self):
-        """(NAME, number) in the table's order."""
-        item = r"^pub (?:const|fn) (\w+)[^{]*(?:\{ result[^}]*\}\s*\{\s*Refusal )?\{\s*number: (\d+)"
-        rows = [(name.upper(), int(n)) for name, n in re.findall(item, self.files["refusal"], re.M)]
+    def _numbered(self, crate, row):
+        """(NAME, number) of an enum whose numbers stand in rows of this form, in their order."""
+        rows = [(_upper(name), int(n)) for name, n in re.findall(row, self.files[crate], re.M)]
         if [n for _, n in rows] != list(range(1, len(rows) + 1)):
-            raise SystemExit("crates/refusal: the numbers are not 1, 2, 3 and on")
+            raise SystemExit(f"crates/{crate}: the numbers are not 1, 2, 3 and on")
         return rows
+
+
+def _upper(name):
+    """CamelCase as CAMEL_CASE."""
+    return re.sub(r"(?<=[a-z])(?=[A-Z])", "_", name).upper()
 
 
 def _text(comment):

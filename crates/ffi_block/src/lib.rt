@@ -1,14 +1,14 @@
 // One block at the boundary to C: what reading it came to, its fields as thirteen numbers with an order by type.
 #![tactic(auto)]
 
-ghost use Rattle.std.specs.Prelude.{◌≡◌};
+ghost use Rattle.std.specs.Prelude.{◌≡◌, ◌++◌, ◌≤◌, length, take};
 ghost use Rattle.block.specs.Reading.{read_block};
 ghost use Rattle.block.specs.declared.Block.TheVariants.{Measured, Streams};
-ghost use Rattle.ffi_block.specs.Answers.{fields_out, rle_out, read_out};
+ghost use Rattle.ffi_block.specs.Answers.{no_fields, fields_out, rle_out, read_out};
 
 use block::{Block, BlockRead, LossRle, Measurement, StreamCounts};
-use ffi_answer::NONE;
-use refusal::Refusal;
+use ffi_answer::{NONE, RefusalFields};
+use packet::BlockAt;
 
 // How many numbers the fields of any block take.
 pub const FIELDS: usize = 13;
@@ -18,7 +18,7 @@ pub const FIELDS: usize = 13;
 #[repr(C)]
 #[derive(Clone, Copy)]
 pub struct BlockFields {
-    pub refusal: Refusal,
+    pub refusal: RefusalFields,
     pub block_type: u32, // 0 where refused
     pub verdict: u32, // NUVASKOE_VERDICT_UNKNOWN where refused
     pub fields: [u32; FIELDS], // where typed, or Loss RLE, by the names of its type's places; all others 0
@@ -26,10 +26,45 @@ pub struct BlockFields {
 
 pub const NO_FIELDS: [u32; FIELDS] = [0; FIELDS];
 
+// So many fields, with zeros behind.
+fn padded(fields: &[u32]) -> [u32; FIELDS]
+    requires { length fields.now ≤ 13 }
+    ensures { result ≡ take 13 (fields.now ++ no_fields) }
+{
+    let mut all = NO_FIELDS;
+    all[..fields.len()].copy_from_slice(fields);
+    all
+}
+
+// The fields of a typed block, in the header's order.
+fn fields_of(b: Block) -> [u32; FIELDS]
+    ensures { result ≡ fields_out b }
+{
+    match b {
+        Block::Measured(m) => measurement_fields(m),
+        Block::Loss(l) => padded(&[
+            l.flag as u32,
+            l.source,
+            l.burst_rate as u32,
+            l.gap_rate as u32,
+            l.burst_mean as u32,
+            l.burst_variance as u32,
+        ]),
+        Block::Discard(d) => padded(&[
+            d.flag as u32,
+            d.source,
+            d.burst_rate as u32,
+            d.gap_rate as u32,
+        ]),
+        Block::Effective(e) => padded(&[e.source, e.index as u32]),
+        Block::Streams(t) => stream_fields(t),
+    }
+}
+
 fn measurement_fields(m: Measurement) -> [u32; FIELDS]
     ensures { result ≡ fields_out (Measured m) }
 {
-    [
+    padded(&[
         m.source,
         m.first as u32,
         m.extended_first,
@@ -37,13 +72,7 @@ fn measurement_fields(m: Measurement) -> [u32; FIELDS]
         m.interval,
         m.seconds,
         m.fraction,
-        0,
-        0,
-        0,
-        0,
-        0,
-        0,
-    ]
+    ])
 }
 
 fn stream_fields(t: StreamCounts) -> [u32; FIELDS]
@@ -66,103 +95,36 @@ fn stream_fields(t: StreamCounts) -> [u32; FIELDS]
     ]
 }
 
-// The fields of a typed block, in the header's order.
-fn fields_of(b: Block) -> [u32; FIELDS]
-    ensures { result ≡ fields_out b }
-{
-    match b {
-        Block::Measured(m) => measurement_fields(m),
-        Block::Loss(l) => [
-            l.flag as u32,
-            l.source,
-            l.burst_rate as u32,
-            l.gap_rate as u32,
-            l.burst_mean as u32,
-            l.burst_variance as u32,
-            0,
-            0,
-            0,
-            0,
-            0,
-            0,
-            0,
-        ],
-        Block::Discard(d) => [
-            d.flag as u32,
-            d.source,
-            d.burst_rate as u32,
-            d.gap_rate as u32,
-            0,
-            0,
-            0,
-            0,
-            0,
-            0,
-            0,
-            0,
-            0,
-        ],
-        Block::Effective(e) => [e.source, e.index as u32, 0, 0, 0, 0, 0, 0, 0, 0, 0, 0, 0],
-        Block::Streams(t) => stream_fields(t),
-    }
-}
-
 // The fields of a good type 1, in the header's order.
 fn rle_fields(r: LossRle) -> [u32; FIELDS]
     ensures { result ≡ rle_out r }
 {
     let packets = block::packets_covered(r.begin, r.end);
-    [
+    padded(&[
         r.source,
         r.begin as u32,
         r.end as u32,
         packets as u32,
         r.lost as u32,
-        0,
-        0,
-        0,
-        0,
-        0,
-        0,
-        0,
-        0,
-    ]
+    ])
 }
 
-pub fn read_out(kind: u8, r: BlockRead) -> BlockFields
-    ensures { result ≡ read_out kind r }
-{
-    match r {
-        BlockRead::Typed(b) => {
-            let fields = fields_of(b);
-            BlockFields {
-                refusal: NONE,
-                block_type: kind as u32,
-                verdict: verdict::TYPED as u32,
-                fields,
-            }
-        }
-        BlockRead::Rle(l) => {
-            let fields = rle_fields(l);
-            BlockFields {
-                refusal: NONE,
-                block_type: kind as u32,
-                verdict: verdict::RLE as u32,
-                fields,
-            }
-        }
-        BlockRead::Unknown => BlockFields {
+impl From<BlockAt> for BlockFields {
+    ghost from_gives = { λ found fields. fields ≡ read_out found.kind found.read };
+
+    fn from(found: BlockAt) -> BlockFields {
+        let (verdict, fields) = match found.read {
+            BlockRead::Typed(b) => (verdict::TYPED, fields_of(b)),
+            BlockRead::Rle(r) => (verdict::RLE, rle_fields(r)),
+            BlockRead::Unknown => (verdict::UNKNOWN, NO_FIELDS),
+            BlockRead::Dropped(reason) => (reason.into(), NO_FIELDS),
+        };
+        BlockFields {
             refusal: NONE,
-            block_type: kind as u32,
-            verdict: verdict::UNKNOWN as u32,
-            fields: NO_FIELDS,
-        },
-        BlockRead::Dropped(reason) => BlockFields {
-            refusal: NONE,
-            block_type: kind as u32,
-            verdict: reason as u32,
-            fields: NO_FIELDS,
-        },
+            block_type: found.kind as u32,
+            verdict: verdict as u32,
+            fields,
+        }
     }
 }
 
@@ -172,5 +134,9 @@ pub fn read_out(kind: u8, r: BlockRead) -> BlockFields
 pub extern "C" fn nuvaskoe_block_read(block_type: u8, specific: u8, body: &[u8]) -> BlockFields
     ensures { result ≡ read_out block_type (read_block block_type specific body.now) }
 {
-    read_out(block_type, block::read(block_type, specific, body))
+    BlockAt {
+        kind: block_type,
+        read: block::read(block_type, specific, body),
+    }
+    .into()
 }

@@ -8,8 +8,7 @@ ghost use Rattle.card.specs.Card.{read_card, card_of, write_card};
 ghost use Rattle.ffi_answer.specs.Answers.{written_out};
 ghost use Rattle.ffi_card.specs.Answers.{card_out};
 
-use card::CardRead;
-use ffi_answer::{NONE, WrittenSize};
+use ffi_answer::{NONE, RefusalFields, WrittenSize};
 use refusal::Refusal;
 use settings::Settings;
 
@@ -18,29 +17,24 @@ use settings::Settings;
 #[repr(C)]
 #[derive(Clone, Copy)]
 pub struct Card {
-    pub refusal: Refusal,
+    pub refusal: RefusalFields,
     pub settings: Settings, // all 0 where refused
 }
 
-const NO_SETTINGS: Settings = Settings {
-    gmin: 0,
-    batch: 0,
-    threshold: 0,
-    spacing: 0,
-};
+impl From<Result<Settings, Refusal>> for Card {
+    ghost from_gives = { λ card fields. fields ≡ card_out card };
 
-pub fn card_out(c: CardRead) -> Card
-    ensures { result ≡ card_out c }
-{
-    match c {
-        CardRead::Accepted(settings) => Card {
-            refusal: NONE,
-            settings,
-        },
-        CardRead::Refused(refusal) => Card {
-            refusal,
-            settings: NO_SETTINGS,
-        },
+    fn from(card: Result<Settings, Refusal>) -> Card {
+        match card {
+            Ok(settings) => Card {
+                refusal: NONE,
+                settings,
+            },
+            Err(why) => Card {
+                refusal: why.into(),
+                settings: Settings::default(),
+            },
+        }
     }
 }
 
@@ -50,7 +44,7 @@ pub fn card_out(c: CardRead) -> Card
 pub extern "C" fn nuvaskoe_card_read(card: &[u8]) -> Card
     ensures { result ≡ card_out (read_card limits card.now) }
 {
-    card_out(card::read(card))
+    card::read(card).into()
 }
 
 // Writes the one card of these settings into the first 20 bytes of out; the bytes after them keep what they held.
@@ -60,5 +54,5 @@ pub extern "C" fn nuvaskoe_card_write(settings: Settings, out: &mut [u8]) -> Wri
     ensures answer { result ≡ written_out (write_card limits settings out.old) }
     ensures buffer { out.new ≡ after (write_card limits settings out.old) (card_of settings) out.old }
 {
-    ffi_answer::written_out(card::write(settings, out))
+    card::write(settings, out).into()
 }

@@ -11,6 +11,7 @@ ghost use Rattle.ffi_answer.specs.Answers.{written_out};
 
 use block::{Block, DiscardSummary, EffectiveSummary, LossSummary, Measurement, StreamCounts};
 use ffi_answer::WrittenSize;
+use refusal::Refusal;
 
 // Writes a packet with this sender and no blocks into the first 8 bytes of out; the bytes after them keep what they
 // held. A good write answers size 8. Refusal: 8.
@@ -19,7 +20,7 @@ pub extern "C" fn nuvaskoe_packet_new(sender: u32, out: &mut [u8]) -> WrittenSiz
     ensures answer { result ≡ written_out (new_answer out.old) }
     ensures buffer { out.new ≡ after (new_answer out.old) (new_bytes sender) out.old }
 {
-    ffi_answer::written_out(compose::new_packet(out, sender))
+    compose::new_packet(out, sender).into()
 }
 
 // Adds a block 14 to the packet at the front of out.
@@ -28,7 +29,7 @@ pub extern "C" fn nuvaskoe_packet_add_measurement(out: &mut [u8], block: Measure
     ensures answer { result ≡ written_out (add_answer out.old (Measured block)) }
     ensures buffer { out.new ≡ after (add_answer out.old (Measured block)) (grown out.old (words_of (Measured block))) out.old }
 {
-    ffi_answer::written_out(compose::add(out, Block::Measured(block)))
+    compose::add(out, Block::Measured(block)).into()
 }
 
 // Adds a block 17.
@@ -37,7 +38,7 @@ pub extern "C" fn nuvaskoe_packet_add_loss(out: &mut [u8], block: LossSummary) -
     ensures answer { result ≡ written_out (add_answer out.old (Loss block)) }
     ensures buffer { out.new ≡ after (add_answer out.old (Loss block)) (grown out.old (words_of (Loss block))) out.old }
 {
-    ffi_answer::written_out(compose::add(out, Block::Loss(block)))
+    compose::add(out, Block::Loss(block)).into()
 }
 
 // Adds a block 18.
@@ -46,7 +47,7 @@ pub extern "C" fn nuvaskoe_packet_add_discard(out: &mut [u8], block: DiscardSumm
     ensures answer { result ≡ written_out (add_answer out.old (Discard block)) }
     ensures buffer { out.new ≡ after (add_answer out.old (Discard block)) (grown out.old (words_of (Discard block))) out.old }
 {
-    ffi_answer::written_out(compose::add(out, Block::Discard(block)))
+    compose::add(out, Block::Discard(block)).into()
 }
 
 // Adds a block 240.
@@ -58,7 +59,7 @@ pub extern "C" fn nuvaskoe_packet_add_effective(
     ensures answer { result ≡ written_out (add_answer out.old (Effective block)) }
     ensures buffer { out.new ≡ after (add_answer out.old (Effective block)) (grown out.old (words_of (Effective block))) out.old }
 {
-    ffi_answer::written_out(compose::add(out, Block::Effective(block)))
+    compose::add(out, Block::Effective(block)).into()
 }
 
 // Adds a block 241.
@@ -67,5 +68,5 @@ pub extern "C" fn nuvaskoe_packet_add_streams(out: &mut [u8], block: StreamCount
     ensures answer { result ≡ written_out (add_answer out.old (Streams block)) }
     ensures buffer { out.new ≡ after (add_answer out.old (Streams block)) (grown out.old (words_of (Streams block))) out.old }
 {
-    ffi_answer::written_out(compose::add(out, Block::Streams(block)))
+    compose::add(out, Block::Streams(block)).into()
 }

@@ -8,17 +8,17 @@ ghost use Rattle.figures.specs.Figures.{loss_block, discard_block};
 ghost use Rattle.ffi_figures.specs.Answers.{figures_out, figures_by};
 
 use block::{DiscardSummary, LossSummary, UNAVAILABLE};
-use bursts::{Figures, FiguresRead};
-use ffi_answer::NONE;
+use bursts::Figures;
+use ffi_answer::{NONE, RefusalFields};
 use refusal::Refusal;
-use trace::EventRead;
+use trace::Event;
 
 // The answer of a call that measures.
 // C: nuvaskoe_figured
 #[repr(C)]
 #[derive(Clone, Copy)]
 pub struct Figured {
-    pub refusal: Refusal,
+    pub refusal: RefusalFields,
     pub figures: Figures, // all unavailable where refused
 }
 
@@ -30,18 +30,20 @@ pub const NO_FIGURES: Figures = Figures {
     burst_variance: UNAVAILABLE,
 };
 
-pub fn figures_out(m: FiguresRead) -> Figured
-    ensures { result ≡ figures_out m }
-{
-    match m {
-        FiguresRead::Accepted(figures) => Figured {
-            refusal: NONE,
-            figures,
-        },
-        FiguresRead::Refused(refusal) => Figured {
-            refusal,
-            figures: NO_FIGURES,
-        },
+impl From<Result<Figures, Refusal>> for Figured {
+    ghost from_gives = { λ measured fields. fields ≡ figures_out measured };
+
+    fn from(measured: Result<Figures, Refusal>) -> Figured {
+        match measured {
+            Ok(figures) => Figured {
+                refusal: NONE,
+                figures,
+            },
+            Err(why) => Figured {
+                refusal: why.into(),
+                figures: NO_FIGURES,
+            },
+        }
     }
 }
 
@@ -51,13 +53,9 @@ pub fn figures_out(m: FiguresRead) -> Figured
 pub extern "C" fn nuvaskoe_figures(trace: &[u8], gmin: u32, spacing: u32, event: u32) -> Figured
     ensures { result ≡ figures_by gmin spacing trace.now (event_in event) }
 {
-    match trace::event_in(event) {
-        EventRead::Known(kind) => figures_out(figures::of_trace(trace, gmin, spacing, kind)),
-        EventRead::Unknown => Figured {
-            refusal: refusal::SETTING,
-            figures: NO_FIGURES,
-        },
-    }
+    Event::try_from(event)
+        .and_then(|kind| figures::of_trace(trace, gmin, spacing, kind))
+        .into()
 }
 
 // The block 17 with these figures, source and interval flag, each as given. Nothing looks at where

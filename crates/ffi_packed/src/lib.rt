@@ -16,8 +16,8 @@ ghost use Rattle.ffi_packed.specs.Calls.{pack_by, pack_after_by};
 
 use ffi_answer::WrittenSize;
 use ffi_batch::{LossNumbers, MarkCount};
-use refusal::Written;
-use trace::EventRead;
+use refusal::Refusal;
+use trace::Event;
 
 // Packs a trace into the front of out, by the event that counts: a word for each 64 packets, the last one filled up with zeros. A
 // good call answers how many words these are; the words after them keep what they held. Refusals: 15 for the event, 10, 9 for a
@@ -27,10 +27,10 @@ pub extern "C" fn nuvaskoe_trace_pack(trace: &[u8], event: u32, out: &mut [u64])
     ensures answer { result ≡ written_out (pack_by trace.now out.old (event_in event)) }
     ensures buffer { out.new ≡ pack_after_by trace.now out.old (event_in event) }
 {
-    match trace::event_in(event) {
-        EventRead::Known(kind) => ffi_answer::written_out(packing::pack(trace, kind, out)),
-        EventRead::Unknown => ffi_answer::written_out(Written::Refused(refusal::SETTING)),
-    }
+    let Ok(kind) = Event::try_from(event) else {
+        return WrittenSize::from(Err(Refusal::Setting));
+    };
+    packing::pack(trace, kind, out).into()
 }
 
 // Unpacks the words of so many packets into the front of out: a byte a packet, 1 for each one and 0 for each zero. A good call
@@ -44,7 +44,7 @@ pub extern "C" fn nuvaskoe_trace_unpack(
     ensures answer { result ≡ written_out (unpack_answer words.now packets out.old) }
     ensures buffer { out.new ≡ after (unpack_answer words.now packets out.old) (bytes_of (one_in words.now) 0 packets) out.old }
 {
-    ffi_answer::written_out(packing::unpack(words, packets, out))
+    packing::unpack(words, packets, out).into()
 }
 
 // The effective loss of a packed trace, with its ones as the losses. Refusals: 15, those of the words, 14.
@@ -57,7 +57,7 @@ pub extern "C" fn nuvaskoe_packed_loss(
 ) -> LossNumbers
     ensures { result ≡ loss_out (loss_answer (judged_packed words.now packets) (one_in words.now) packets batch threshold) }
 {
-    ffi_batch::loss_out(packed_loss::effective_loss(words, packets, batch, threshold))
+    packed_loss::effective_loss(words, packets, batch, threshold).into()
 }
 
 // Writes the smallest resend plan of a packed trace into the front of out, one byte a packet, as nuvaskoe_resend_plan does.
@@ -75,5 +75,5 @@ pub extern "C" fn nuvaskoe_packed_plan(
     ensures best { Plannable (judged_packed words.now packets) packets batch threshold out.old → Best (one_in words.now) packets batch threshold (take packets out.new) }
     ensures count { Plannable (judged_packed words.now packets) packets batch threshold out.old → result.marks ≡ marks (take packets out.new) }
 {
-    ffi_batch::marks_out(packed_plan::plan(words, packets, batch, threshold, out))
+    packed_plan::plan(words, packets, batch, threshold, out).into()
 }

@@ -10,10 +10,9 @@ ghost use Rattle.compare.specs.Answer.{compare_answer, list_after};
 ghost use Rattle.ffi_answer.specs.Answers.{written_out};
 ghost use Rattle.ffi_packet.specs.Answers.{packet_out, block_out, compared_out};
 
-use compare::Compared;
-use ffi_answer::{NONE, WrittenSize};
+use ffi_answer::{NONE, RefusalFields, WrittenSize};
 use ffi_block::BlockFields;
-use packet::{BlockAt, PacketHead, Part};
+use packet::{PacketHead, Part};
 use refusal::Refusal;
 
 // What a packet says of itself.
@@ -21,7 +20,7 @@ use refusal::Refusal;
 #[repr(C)]
 #[derive(Clone, Copy)]
 pub struct Packet {
-    pub refusal: Refusal,
+    pub refusal: RefusalFields,
     pub sender: u32, // 0 where refused
     pub blocks: usize, // how many blocks it has; 0 where refused
 }
@@ -31,56 +30,46 @@ pub struct Packet {
 #[repr(C)]
 #[derive(Clone, Copy)]
 pub struct Comparison {
-    pub refusal: Refusal,
+    pub refusal: RefusalFields,
     pub differences: usize, // how many there are, of five numbers each; 0 where refused
 }
 
 // Of a refused call: 0 would read as typed.
 const NO_VERDICT: u32 = verdict::UNKNOWN as u32;
 
-pub fn packet_out(h: PacketHead) -> Packet
-    ensures { result ≡ packet_out h }
-{
-    match h {
-        PacketHead::Sent(sender, blocks) => Packet {
-            refusal: NONE,
-            sender,
-            blocks,
-        },
-        PacketHead::Refused(refusal) => Packet {
-            refusal,
-            sender: 0,
-            blocks: 0,
-        },
+impl From<Result<PacketHead, Refusal>> for Packet {
+    ghost from_gives = { λ head packet. packet ≡ packet_out head };
+
+    fn from(head: Result<PacketHead, Refusal>) -> Packet {
+        match head {
+            Ok(head) => Packet {
+                refusal: NONE,
+                sender: head.sender,
+                blocks: head.blocks,
+            },
+            Err(why) => Packet {
+                refusal: why.into(),
+                sender: 0,
+                blocks: 0,
+            },
+        }
     }
 }
 
-pub fn block_out(b: BlockAt) -> BlockFields
-    ensures { result ≡ block_out b }
-{
-    match b {
-        BlockAt::Found(kind, r) => ffi_block::read_out(kind, r),
-        BlockAt::Refused(refusal) => BlockFields {
-            refusal,
-            block_type: 0,
-            verdict: NO_VERDICT,
-            fields: ffi_block::NO_FIELDS,
-        },
-    }
-}
+impl From<Result<usize, Refusal>> for Comparison {
+    ghost from_gives = { λ compared comparison. comparison ≡ compared_out compared };
 
-pub fn compared_out(c: Compared) -> Comparison
-    ensures { result ≡ compared_out c }
-{
-    match c {
-        Compared::Differences(differences) => Comparison {
-            refusal: NONE,
-            differences,
-        },
-        Compared::Refused(refusal) => Comparison {
-            refusal,
-            differences: 0,
-        },
+    fn from(compared: Result<usize, Refusal>) -> Comparison {
+        match compared {
+            Ok(differences) => Comparison {
+                refusal: NONE,
+                differences,
+            },
+            Err(why) => Comparison {
+                refusal: why.into(),
+                differences: 0,
+            },
+        }
     }
 }
 
@@ -89,7 +78,7 @@ pub fn compared_out(c: Compared) -> Comparison
 pub extern "C" fn nuvaskoe_packet_read(packet: &[u8]) -> Packet
     ensures { result ≡ packet_out (head_of (packet_of packet.now)) }
 {
-    packet_out(packet::head(packet))
+    packet::head(packet).into()
 }
 
 // Block number index, from 0. Further refusal: 7, no block with that index.
@@ -97,7 +86,15 @@ pub extern "C" fn nuvaskoe_packet_read(packet: &[u8]) -> Packet
 pub extern "C" fn nuvaskoe_packet_block(packet: &[u8], index: usize) -> BlockFields
     ensures { result ≡ block_out (block_of (packet_of packet.now) index) }
 {
-    block_out(packet::block(packet, index))
+    match packet::block(packet, index) {
+        Ok(found) => found.into(),
+        Err(why) => BlockFields {
+            refusal: why.into(),
+            block_type: 0,
+            verdict: NO_VERDICT,
+            fields: ffi_block::NO_FIELDS,
+        },
+    }
 }
 
 // Where the body of block number index lies in the packet: the words after the block's first. Start 0 and length 0
@@ -117,7 +114,7 @@ pub extern "C" fn nuvaskoe_packet_list(packet: &[u8], out: &mut [u32]) -> Writte
     ensures answer { result ≡ written_out (list_answer (packet_of packet.now) out.old) }
     ensures buffer { out.new ≡ after (list_answer (packet_of packet.now) out.old) (list_of (packet_of packet.now)) out.old }
 {
-    ffi_answer::written_out(survey::list(packet, out))
+    survey::list(packet, out).into()
 }
 
 // Every differing field of two packets, their blocks paired by index: for each difference five numbers of out, its kind, the
@@ -138,5 +135,5 @@ pub extern "C" fn nuvaskoe_packet_compare(
     ensures answer { result ≡ compared_out (compare_answer (packet_of first.now) (packet_of second.now) out.old) }
     ensures list { out.new ≡ list_after (packet_of first.now) (packet_of second.now) out.old }
 {
-    compared_out(compare::packets(first, second, out))
+    compare::packets(first, second, out).into()
 }

@@ -1,14 +1,14 @@
 -- The cases of a panel at the boundary, and that a block handed out and in again has the panel of what was read. Assumes nothing.
 use mathlib.Core.Path.{◌≡◌, refl}
 use Prim.Native.Nat.{ℕ, ◌≤◌}
-use native.Mathlib.Omega.{arith}
 use mathlib.Core.Bool.{Bool, true, false}
 use lib.ListN.{get_or}
-use borrow.Author.Tests.{ne_eqb}
 use mir.Val.{bool_byte}
 use Rattle.refusal.proofs.Tests.{fails}
 use Rattle.block.specs.Reading.{summary_good}
 use Rattle.block.specs.declared.BlockRead.TheVariants.{Unknown, Dropped}
+use Rattle.block.specs.declared.Reason.{Reason}
+use Rattle.block.specs.declared.Reason.TheVariants.{BadSize, BadFlag, BadRate, Unmeasured, BadChunks}
 use Rattle.block.proofs.Good.{good_fits}
 use Rattle.block.proofs.Cases.{answers}
 use Rattle.dials.specs.Panel.{dark, summary_panel, panel_read}
@@ -40,14 +40,18 @@ summary b h = rw h
 -- ---- the law
 
 -- dropped: its verdict is the reason
-pub dropped : (type reason : ℕ) → 1 ≤ reason → panel_in (read_out type (Dropped reason)) ≡ dark
-dropped type reason h = no_summary_lem (read_out type (Dropped reason)) (rw (ne_eqb reason 0 (λ (e : reason ≡ 0). omega arith)))
+dropped : (type : ℕ) (reason : Reason) → panel_in (read_out type (Dropped reason)) ≡ dark
+dropped type BadSize = no_summary_lem _ refl
+dropped type BadFlag = no_summary_lem _ refl
+dropped type BadRate = no_summary_lem _ refl
+dropped type Unmeasured = no_summary_lem _ refl
+dropped type BadChunks = no_summary_lem _ refl
 
 pub panel_of_read : PanelOfRead
 panel_of_read type specific body =
     answers specific body (λ t a. panel_in (read_out t a) ≡ panel_read a)
     (λ t. no_summary_lem (read_out t Unknown) refl)
-    (λ t reason own. dropped t reason own.0)
+    (λ t reason own. dropped t reason)
     (λ g. no_summary_lem _ refl)
     (λ s. no_summary_lem _ refl)
     (λ s g. summary _ refl)

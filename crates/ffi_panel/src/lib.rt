@@ -31,11 +31,6 @@ pub struct PanelFields {
     pub lamp: u32, // 1 exactly where at least one needle is lit
 }
 
-// The greatest numbers of fields of 8 and of 16 bits.
-const EIGHT_BITS: u32 = 255;
-
-const SIXTEEN_BITS: u32 = 65_535;
-
 // Where the boundary has the interval flag and the rates of a 17 and of an 18.
 const FLAG_AT: usize = 0;
 
@@ -43,27 +38,29 @@ const BURST_RATE_AT: usize = 2;
 
 const GAP_RATE_AT: usize = 3;
 
-pub fn needle_out(n: Needle) -> NeedleFields
-    ensures { result ≡ needle_out n }
-{
-    match n {
-        Needle::Lit(position) => NeedleFields { lit: 1, position },
-        Needle::Dark => NeedleFields {
-            lit: 0,
-            position: 0.0,
-        },
+impl From<Needle> for NeedleFields {
+    ghost from_gives = { λ needle fields. fields ≡ needle_out needle };
+
+    fn from(needle: Needle) -> NeedleFields {
+        match needle {
+            Needle::Lit(position) => NeedleFields { lit: 1, position },
+            Needle::Dark => NeedleFields {
+                lit: 0,
+                position: 0.0,
+            },
+        }
     }
 }
 
-pub fn panel_out(p: Panel) -> PanelFields
-    ensures { result ≡ panel_out p }
-{
-    let burst = p.burst;
-    let gap = p.gap;
-    PanelFields {
-        burst: needle_out(burst),
-        gap: needle_out(gap),
-        lamp: dials::lamp(p) as u32,
+impl From<Panel> for PanelFields {
+    ghost from_gives = { λ panel fields. fields ≡ panel_out panel };
+
+    fn from(panel: Panel) -> PanelFields {
+        PanelFields {
+            burst: panel.burst.into(),
+            gap: panel.gap.into(),
+            lamp: dials::lamp(panel) as u32,
+        }
     }
 }
 
@@ -71,16 +68,16 @@ pub fn panel_out(p: Panel) -> PanelFields
 fn summary_in(flag: u32, burst_rate: u32, gap_rate: u32) -> Panel
     ensures { result ≡ summary_panel flag burst_rate gap_rate }
 {
-    if EIGHT_BITS < flag {
+    let Ok(flag) = u8::try_from(flag) else {
         return dials::DARK;
-    }
-    if SIXTEEN_BITS < burst_rate {
+    };
+    let Ok(burst_rate) = u16::try_from(burst_rate) else {
         return dials::DARK;
-    }
-    if SIXTEEN_BITS < gap_rate {
+    };
+    let Ok(gap_rate) = u16::try_from(gap_rate) else {
         return dials::DARK;
-    }
-    dials::of_summary(flag as u8, burst_rate as u16, gap_rate as u16)
+    };
+    dials::of_summary(flag, burst_rate, gap_rate)
 }
 
 // Whether a block as the boundary hands it out was read as a 17 or 18.
@@ -92,6 +89,8 @@ fn is_summary(b: BlockFields) -> bool
         & ((b.block_type == block::LOSS as u32) | (b.block_type == block::DISCARD as u32))
 }
 
+// The panel of a block as the boundary hands it out. A function and no `From`: both types belong to other crates.
+#[tactic(auto, unfolding(crate::specs::Answers::panel_in))]
 pub fn panel_in(b: BlockFields) -> Panel
     ensures { result ≡ panel_in b }
 {
@@ -107,7 +106,7 @@ pub fn panel_in(b: BlockFields) -> Panel
 pub extern "C" fn nuvaskoe_panel_of_packet(packet: &[u8], index: usize) -> PanelFields
     ensures { result ≡ panel_out (panel_at (block_of (packet_of packet.now) index)) }
 {
-    panel_out(dials::of_packet(packet, index))
+    dials::of_packet(packet, index).into()
 }
 
 // The panel of what was read: of a block that nuvaskoe_packet_block or nuvaskoe_block_read answered. One made by hand is shown
@@ -116,7 +115,7 @@ pub extern "C" fn nuvaskoe_panel_of_packet(packet: &[u8], index: usize) -> Panel
 pub extern "C" fn nuvaskoe_panel_of_read(block: BlockFields) -> PanelFields
     ensures { result ≡ panel_out (panel_in block) }
 {
-    panel_out(panel_in(block))
+    panel_in(block).into()
 }
 
 // The panel of a block 17.
@@ -124,7 +123,7 @@ pub extern "C" fn nuvaskoe_panel_of_read(block: BlockFields) -> PanelFields
 pub extern "C" fn nuvaskoe_panel_of_loss(block: LossSummary) -> PanelFields
     ensures { result ≡ panel_out (panel_of (Loss block)) }
 {
-    panel_out(dials::of_block(Block::Loss(block)))
+    dials::of_block(Block::Loss(block)).into()
 }
 
 // The panel of a block 18.
@@ -132,5 +131,5 @@ pub extern "C" fn nuvaskoe_panel_of_loss(block: LossSummary) -> PanelFields
 pub extern "C" fn nuvaskoe_panel_of_discard(block: DiscardSummary) -> PanelFields
     ensures { result ≡ panel_out (panel_of (Discard block)) }
 {
-    panel_out(dials::of_block(Block::Discard(block)))
+    dials::of_block(Block::Discard(block)).into()
 }

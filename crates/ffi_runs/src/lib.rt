@@ -19,7 +19,7 @@ pub extern "C" fn nuvaskoe_packet_rle(packet: &[u8], index: usize, out: &mut [u8
     ensures answer { result ≡ written_out (trace_answer (packet_of packet.now) index out.old) }
     ensures buffer { out.new ≡ after (trace_answer (packet_of packet.now) index out.old) (trace_at (packet_of packet.now) index) out.old }
 {
-    ffi_answer::written_out(runs::read_out(packet, index, out))
+    runs::read_out(packet, index, out).into()
 }
 
 // Adds a trace of received and lost packets as a block of type 1 to the packet at the front of out: begin is the sequence number
@@ -36,5 +36,5 @@ pub extern "C" fn nuvaskoe_packet_add_rle(
     ensures answer { result ≡ written_out (add_answer out.old source begin trace.now) }
     ensures buffer { out.new ≡ after (add_answer out.old source begin trace.now) (grown out.old (rle_words source begin trace.now)) out.old }
 {
-    ffi_answer::written_out(runs::add(out, source, begin, trace))
+    runs::add(out, source, begin, trace).into()
 }

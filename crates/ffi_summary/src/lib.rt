@@ -6,13 +6,14 @@ ghost use Rattle.std.specs.Prelude.{◌≡◌};
 ghost use Rattle.trace.specs.declared.Event.TheVariants.{Lost, Discarded};
 ghost use Rattle.figures.specs.Figures.{figures_in, summary_of};
 ghost use Rattle.ffi_tally.specs.Answers.{tally_in};
-ghost use Rattle.ffi_summary.specs.Answers.{no_summary, summary_out, block_by};
+ghost use Rattle.ffi_summary.specs.Answers.{summary_out, block_by};
 
 use block::{DiscardSummary, LossSummary};
-use ffi_answer::NONE;
-use ffi_tally::{TallyNumbers, TallyRead};
+use ffi_answer::{NONE, RefusalFields};
+use ffi_tally::TallyNumbers;
 use figures::Summary;
 use refusal::Refusal;
+use tally::Tally;
 
 // The answer of a call that makes the block of a measurement. A block that is not filled is all 0, and adding it to a
 // packet is refused with 16.
@@ -20,7 +21,7 @@ use refusal::Refusal;
 #[repr(C)]
 #[derive(Clone, Copy)]
 pub struct SummaryNumbers {
-    pub refusal: Refusal,
+    pub refusal: RefusalFields,
     pub block_type: u32, // NUVASKOE_BLOCK_LOSS or NUVASKOE_BLOCK_DISCARD: the block that is filled; 0 where refused
     pub loss: LossSummary,
     pub discard: DiscardSummary,
@@ -42,35 +43,30 @@ const NO_DISCARD: DiscardSummary = DiscardSummary {
     gap_rate: 0,
 };
 
-pub fn summary_out(s: Summary) -> SummaryNumbers
-    ensures { result ≡ summary_out s }
-{
-    match s {
-        Summary::Loss(loss) => SummaryNumbers {
-            refusal: NONE,
-            block_type: block::LOSS as u32,
-            loss,
-            discard: NO_DISCARD,
-        },
-        Summary::Discard(discard) => SummaryNumbers {
-            refusal: NONE,
-            block_type: block::DISCARD as u32,
-            loss: NO_LOSS,
-            discard,
-        },
-        Summary::Refused(refusal) => refused_summary(refusal),
-    }
-}
+impl From<Result<Summary, Refusal>> for SummaryNumbers {
+    ghost from_gives = { λ summary fields. fields ≡ summary_out summary };
 
-// No block, and why.
-pub fn refused_summary(refusal: Refusal) -> SummaryNumbers
-    ensures { result ≡ no_summary refusal }
-{
-    SummaryNumbers {
-        refusal,
-        block_type: 0,
-        loss: NO_LOSS,
-        discard: NO_DISCARD,
+    fn from(summary: Result<Summary, Refusal>) -> SummaryNumbers {
+        match summary {
+            Ok(Summary::Loss(loss)) => SummaryNumbers {
+                refusal: NONE,
+                block_type: block::LOSS as u32,
+                loss,
+                discard: NO_DISCARD,
+            },
+            Ok(Summary::Discard(discard)) => SummaryNumbers {
+                refusal: NONE,
+                block_type: block::DISCARD as u32,
+                loss: NO_LOSS,
+                discard,
+            },
+            Err(why) => SummaryNumbers {
+                refusal: why.into(),
+                block_type: 0,
+                loss: NO_LOSS,
+                discard: NO_DISCARD,
+            },
+        }
     }
 }
 
@@ -86,7 +82,7 @@ pub extern "C" fn nuvaskoe_loss_of_trace(
 ) -> SummaryNumbers
     ensures { result ≡ summary_out (summary_of Lost source flag (figures_in gmin spacing Lost trace.now)) }
 {
-    summary_out(figures::loss_of_trace(trace, gmin, spacing, source, flag))
+    figures::loss_of_trace(trace, gmin, spacing, source, flag).into()
 }
 
 // The block 18 of a whole trace: the figures of its discarded packets, in the same way.
@@ -100,7 +96,7 @@ pub extern "C" fn nuvaskoe_discard_of_trace(
 ) -> SummaryNumbers
     ensures { result ≡ summary_out (summary_of Discarded source flag (figures_in gmin spacing Discarded trace.now)) }
 {
-    summary_out(figures::discard_of_trace(trace, gmin, spacing, source, flag))
+    figures::discard_of_trace(trace, gmin, spacing, source, flag).into()
 }
 
 // The block of all packets taken, with this source and interval flag: a 17 of a tally that counts lost packets, an 18 of
@@ -109,8 +105,7 @@ pub extern "C" fn nuvaskoe_discard_of_trace(
 pub extern "C" fn nuvaskoe_tally_block(tally: TallyNumbers, source: u32, flag: u8) -> SummaryNumbers
     ensures { result ≡ block_by source flag (tally_in tally) }
 {
-    match ffi_tally::tally_in(tally) {
-        TallyRead::Known(t) => summary_out(figures::of_tally(t, source, flag)),
-        TallyRead::Unknown => refused_summary(refusal::SETTING),
-    }
+    Tally::try_from(tally)
+        .and_then(|t| figures::of_tally(t, source, flag))
+        .into()
 }

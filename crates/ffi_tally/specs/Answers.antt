@@ -2,26 +2,22 @@
 -- call refused, 0 and 0 where it answered; beside a refused opening no tally, beside a refused packet the tally as given.
 use Rattle.refusal.specs.declared.Refusal.{Refusal}
 use Rattle.tally.specs.declared.Tally.{Tally}
-use Rattle.tally.specs.declared.Opened.{Opened}
-use Rattle.tally.specs.declared.Opened.TheVariants.{Accepted as Opened-as-Accepted, Refused as Opened-as-Refused}
-use Rattle.tally.specs.declared.Answer.{Answer}
-use Rattle.tally.specs.declared.Answer.TheVariants.{Accepted as Answer-as-Accepted, Refused as Answer-as-Refused}
 use Rattle.tally.specs.declared.Taken.{Taken}
-use Rattle.ffi_answer.specs.Answers.{none}
-use Rattle.trace.specs.declared.EventRead.{EventRead}
-use Rattle.trace.specs.declared.EventRead.TheVariants.{Known, Unknown}
+use Rattle.ffi_answer.specs.Answers.{none, refusal_out}
+use Rattle.ffi_answer.specs.declared.RefusalFields.{RefusalFields}
 use Rattle.trace.specs.Events.{event_in, event_number}
 use Rattle.ffi_tally.specs.declared.TallyNumbers.{TallyNumbers}
-use Rattle.ffi_tally.specs.declared.TallyRead.{TallyRead}
-use Rattle.ffi_tally.specs.declared.TallyRead.TheVariants.{Known as Tally-as-Known, Unknown as Tally-as-Unknown}
 use Rattle.ffi_tally.specs.declared.Tallied.{Tallied}
+use Rattle.std.specs.Prelude.{Result, Ok, Err, Option, Some, None}
+use Rattle.refusal.specs.Answer.{Judged}
+use Rattle.trace.specs.declared.Event.{Event}
 
-abbrev pub tally_with : TallyNumbers → EventRead → TallyRead
-tally_with t (Known event) =
-    Tally-as-Known (record { gmin = t.gmin; spacing = t.spacing; event = event; sums = t.sums; stretch = t.stretch })
-tally_with t Unknown = Tally-as-Unknown
+abbrev pub tally_with : TallyNumbers → Option Event → Option Tally
+tally_with t (Some event) =
+    Some (record { gmin = t.gmin; spacing = t.spacing; event = event; sums = t.sums; stretch = t.stretch })
+tally_with t None = None
 
-abbrev pub tally_in : TallyNumbers → TallyRead
+abbrev pub tally_in : TallyNumbers → Option Tally
 tally_in t = tally_with t (event_in t.event)
 
 abbrev pub tally_out : Tally → TallyNumbers
@@ -38,14 +34,14 @@ no_tally =
     }
 
 -- "a refused opening hands out none"
-abbrev pub opened_out : Opened → Tallied
-opened_out (Opened-as-Accepted t) = record { refusal = none; tally = tally_out t }
-opened_out (Opened-as-Refused r) = record { refusal = r; tally = no_tally }
+abbrev pub opened_out : Result Tally Refusal → Tallied
+opened_out (Ok t) = record { refusal = none; tally = tally_out t }
+opened_out (Err r) = record { refusal = refusal_out r; tally = no_tally }
 
 -- "a tally comes back as given"
-abbrev pub answer_out : Answer → Refusal
-answer_out Answer-as-Accepted = none
-answer_out (Answer-as-Refused r) = r
+abbrev pub answer_out : Judged → RefusalFields
+answer_out (Ok _) = none
+answer_out (Err r) = refusal_out r
 
 abbrev pub taken_out : Taken → Tallied
 taken_out t = record { refusal = answer_out t.answer; tally = tally_out t.tally }

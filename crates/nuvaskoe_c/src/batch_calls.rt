@@ -2,7 +2,6 @@
 // Made by tools/boundary.py from the Rattle source; not edited by hand.
 ghost use Rattle.std.specs.Prelude.{◌≡◌, length, take};
 ghost use Rattle.trace.specs.declared.Event.{Event};
-ghost use Rattle.trace.specs.declared.EventRead.TheVariants.{Known};
 ghost use Rattle.trace.specs.Events.{event_in};
 ghost use Rattle.trace.specs.Trace.{counted_at, judged};
 ghost use Rattle.resend.specs.Plans.{marks, Best};
@@ -35,8 +34,8 @@ pub extern "C" fn nuvaskoe_resend_plan(
 ) -> MarkCount
     ensures answer { result ≡ plan_by trace.now batch threshold out.old (event_in event) }
     ensures buffer { out.new ≡ plan_after_by trace.now batch threshold out.old (event_in event) }
-    ensures best { (kind : Event) → event_in event ≡ Known kind → Plannable (judged trace.now) (length trace.now) batch threshold out.old → Best (counted_at kind trace.now) (length trace.now) batch threshold (take (length trace.now) out.new) }
-    ensures count { (kind : Event) → event_in event ≡ Known kind → Plannable (judged trace.now) (length trace.now) batch threshold out.old → result.marks ≡ marks (take (length trace.now) out.new) }
+    ensures best { (kind : Event) → event_in event ≡ Some kind → Plannable (judged trace.now) (length trace.now) batch threshold out.old → Best (counted_at kind trace.now) (length trace.now) batch threshold (take (length trace.now) out.new) }
+    ensures count { (kind : Event) → event_in event ≡ Some kind → Plannable (judged trace.now) (length trace.now) batch threshold out.old → result.marks ≡ marks (take (length trace.now) out.new) }
 {
     ffi_batch::nuvaskoe_resend_plan(trace, batch, threshold, event, out)
 }

@@ -4,11 +4,11 @@ use native.Mathlib.Omega.{arith}
 use Rattle.ffi_panel.proofs.Panels.{wide}
 use Rattle.ffi_panel.proofs.summary_in.Goals as goal
 
-pub returns-then-flag-gt-EIGHT_BITS : goal.returns-then-flag-gt-EIGHT_BITS
-returns-then-flag-gt-EIGHT_BITS c = sym (wide _ _ _ (λ fits. omega arith))
+pub returns-in_default : goal.returns-in_default
+returns-in_default c = sym (wide _ _ _ (λ fits. omega (arith, c.in_default.ensures)))
 
-pub returns-then-burst_rate-gt-SIXTEEN_BITS : goal.returns-then-burst_rate-gt-SIXTEEN_BITS
-returns-then-burst_rate-gt-SIXTEEN_BITS c = sym (wide _ _ _ (λ fits. omega arith))
+pub returns-in_default-try_from : goal.returns-in_default-try_from
+returns-in_default-try_from c = sym (wide _ _ _ (λ fits. omega (arith, c.in_default-try_from.ensures)))
 
-pub returns-then-gap_rate-gt-SIXTEEN_BITS : goal.returns-then-gap_rate-gt-SIXTEEN_BITS
-returns-then-gap_rate-gt-SIXTEEN_BITS c = sym (wide _ _ _ (λ fits. omega arith))
+pub returns-in_default-try_from-2 : goal.returns-in_default-try_from-2
+returns-in_default-try_from-2 c = sym (wide _ _ _ (λ fits. omega (arith, c.in_default-try_from-2.ensures)))

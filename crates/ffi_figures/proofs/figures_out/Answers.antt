@@ -1,8 +1,0 @@
--- `ffi_figures::figures_out` meets its contract: each arm is a case of the definition. Assumes nothing.
-use Rattle.ffi_figures.proofs.figures_out.Goals as goal
-
-pub returns-in-Accepted : goal.returns-in-Accepted
-returns-in-Accepted c = rw c.in-Accepted.is
-
-pub returns-in-Refused : goal.returns-in-Refused
-returns-in-Refused c = rw c.in-Refused.is
