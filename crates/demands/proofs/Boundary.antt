@@ -9,46 +9,26 @@ use lib.ListN.{length}
 use Rattle.refusal.specs.Table.{setting}
 use Rattle.refusal.specs.Answer.{after}
 use Rattle.refusal.specs.declared.Refusal.{Refusal}
-use Rattle.refusal.specs.declared.Written.{Written}
-use Rattle.refusal.specs.declared.Written.TheVariants.{Size, Refused as Written-as-Refused}
-use Rattle.card.specs.declared.CardRead.{CardRead}
-use Rattle.card.specs.declared.CardRead.TheVariants.{Accepted as Card-as-Accepted, Refused as Card-as-Refused}
 use Rattle.packet.specs.declared.PacketHead.{PacketHead}
-use Rattle.packet.specs.declared.PacketHead.TheVariants.{Sent, Refused as Head-as-Refused}
 use Rattle.packet.specs.declared.BlockAt.{BlockAt}
-use Rattle.packet.specs.declared.BlockAt.TheVariants.{Found, Refused as Block-as-Refused}
-use Rattle.compare.specs.declared.Compared.{Compared}
-use Rattle.compare.specs.declared.Compared.TheVariants.{Differences, Refused as Compared-as-Refused}
 use Rattle.trace.specs.Trace.{lost, discarded, counted_at, judged}
 use Rattle.trace.specs.declared.Event.{Event}
 use Rattle.trace.specs.declared.Event.TheVariants.{Lost, Discarded, Either}
-use Rattle.trace.specs.declared.EventRead.{EventRead}
-use Rattle.trace.specs.declared.EventRead.TheVariants.{Known, Unknown}
 use Rattle.trace.specs.Events.{either, event_in}
-use Rattle.bursts.specs.declared.FiguresRead.{FiguresRead}
-use Rattle.bursts.specs.declared.FiguresRead.TheVariants.{Accepted as Figures-as-Accepted, Refused as Figures-as-Refused}
-use Rattle.tally.specs.declared.Opened.{Opened}
-use Rattle.tally.specs.declared.Opened.TheVariants.{Accepted as Opened-as-Accepted, Refused as Opened-as-Refused}
-use Rattle.tally.specs.declared.Answer.{Answer}
-use Rattle.tally.specs.declared.Answer.TheVariants.{Accepted as Answer-as-Accepted, Refused as Answer-as-Refused}
 use Rattle.tally.specs.Tally.{open_of, take_one, close_of}
 use Rattle.figures.specs.declared.Summary.{Summary}
-use Rattle.figures.specs.declared.Summary.TheVariants.{Loss, Discard, Refused as Summary-as-Refused}
+use Rattle.figures.specs.declared.Summary.TheVariants.{Loss, Discard}
 use Rattle.figures.specs.Figures.{figures_in, summary_of}
-use Rattle.batch.specs.declared.LossRead.{LossRead}
-use Rattle.batch.specs.declared.LossRead.TheVariants.{Loss as LossRead-as-Loss, Refused as LossRead-as-Refused}
 use Rattle.batch.specs.Loss.{loss_answer}
-use Rattle.resend.specs.declared.Planned.{Planned}
-use Rattle.resend.specs.declared.Planned.TheVariants.{Marks, Refused as Planned-as-Refused}
 use Rattle.resend.specs.Answer.{plan_answer, buffer_after}
 use Rattle.resend.proofs.Answering.{refused_unchanged}
 use Rattle.packing.specs.Packing.{words_of, pack_answer}
-use Rattle.ffi_answer.specs.Answers.{none, written_out}
+use Rattle.ffi_answer.specs.declared.RefusalFields.{RefusalFields}
+use Rattle.ffi_answer.specs.Answers.{none, refusal_out, written_out}
 use Rattle.ffi_card.specs.Answers.{card_out}
 use Rattle.ffi_packet.specs.Answers.{packet_out, block_out, compared_out}
 use Rattle.ffi_figures.specs.Answers.{figures_out, figures_by}
 use Rattle.ffi_tally.specs.declared.TallyNumbers.{TallyNumbers}
-use Rattle.ffi_tally.specs.declared.TallyRead.TheVariants.{Unknown as Tally-as-Unknown}
 use Rattle.ffi_tally.specs.Answers.{tally_with, tally_in, opened_out, answer_out}
 use Rattle.ffi_tally.specs.Calls.{open_by, take_by, close_by}
 use Rattle.ffi_summary.specs.Answers.{summary_out, block_by}
@@ -56,103 +36,109 @@ use Rattle.ffi_tally.proofs.Back.{tally_back}
 use Rattle.ffi_batch.specs.Answers.{loss_out, marks_out}
 use Rattle.ffi_batch.specs.Calls.{loss_by, plan_by, plan_after_by}
 use Rattle.ffi_packed.specs.Calls.{pack_by, pack_after_by}
-use Rattle.demands.specs.Verdicts.{of_written, of_card, of_head, of_block, of_compared, of_figures, of_summary, of_opened, of_taken, of_loss, of_planned}
+use Rattle.demands.specs.Verdicts.{verdict_on}
 use Rattle.demands.specs.Orders.{Row, when, judged_by}
 use Rattle.demands.specs.Boundary.{shown, no_event, AtBoundary}
 use Rattle.demands.proofs.Orders.{each_call}
+use Rattle.std.specs.Prelude.{Result, Ok, Err, Option, Some, None}
+use Rattle.batch.specs.declared.EffectiveLoss.{EffectiveLoss}
+use Rattle.bursts.specs.declared.Figures.{Figures}
+use Rattle.refusal.specs.Answer.{Judged, Written}
+use Rattle.settings.specs.declared.Settings.{Settings}
+use Rattle.tally.specs.declared.Tally.{Tally}
 
-written_shown : (a : Written) → (written_out a).refusal ≡ shown (of_written a)
-written_shown (Size n) = refl
-written_shown (Written-as-Refused r) = refl
+written_shown : (a : Written) → (written_out a).refusal ≡ shown (verdict_on a)
+written_shown (Ok n) = refl
+written_shown (Err r) = refl
 
-card_shown : (a : CardRead) → (card_out a).refusal ≡ shown (of_card a)
-card_shown (Card-as-Accepted s) = refl
-card_shown (Card-as-Refused r) = refl
+card_shown : (a : Result Settings Refusal) → (card_out a).refusal ≡ shown (verdict_on a)
+card_shown (Ok s) = refl
+card_shown (Err r) = refl
 
-packet_shown : (a : PacketHead) → (packet_out a).refusal ≡ shown (of_head a)
-packet_shown (Sent sender blocks) = refl
-packet_shown (Head-as-Refused r) = refl
+packet_shown : (a : Result PacketHead Refusal) → (packet_out a).refusal ≡ shown (verdict_on a)
+packet_shown (Ok h) = refl
+packet_shown (Err r) = refl
 
-compared_shown : (a : Compared) → (compared_out a).refusal ≡ shown (of_compared a)
-compared_shown (Differences n) = refl
-compared_shown (Compared-as-Refused r) = refl
+compared_shown : (a : Result ℕ Refusal) → (compared_out a).refusal ≡ shown (verdict_on a)
+compared_shown (Ok n) = refl
+compared_shown (Err r) = refl
 
-block_shown : (a : BlockAt) → (block_out a).refusal ≡ shown (of_block a)
-block_shown (Found type r) = refl
-block_shown (Block-as-Refused r) = refl
+block_shown : (a : Result BlockAt Refusal) → (block_out a).refusal ≡ shown (verdict_on a)
+block_shown (Ok b) = refl
+block_shown (Err r) = refl
 
-figures_shown : (a : FiguresRead) → (figures_out a).refusal ≡ shown (of_figures a)
-figures_shown (Figures-as-Accepted f) = refl
-figures_shown (Figures-as-Refused r) = refl
+figures_shown : (a : Result Figures Refusal) → (figures_out a).refusal ≡ shown (verdict_on a)
+figures_shown (Ok f) = refl
+figures_shown (Err r) = refl
 
-summary_shown : (a : Summary) → (summary_out a).refusal ≡ shown (of_summary a)
-summary_shown (Loss l) = refl
-summary_shown (Discard d) = refl
-summary_shown (Summary-as-Refused r) = refl
+summary_shown : (a : Result Summary Refusal) → (summary_out a).refusal ≡ shown (verdict_on a)
+summary_shown (Ok (Loss l)) = refl
+summary_shown (Ok (Discard d)) = refl
+summary_shown (Err r) = refl
 
-opened_shown : (a : Opened) → (opened_out a).refusal ≡ shown (of_opened a)
-opened_shown (Opened-as-Accepted t) = refl
-opened_shown (Opened-as-Refused r) = refl
+opened_shown : (a : Result Tally Refusal) → (opened_out a).refusal ≡ shown (verdict_on a)
+opened_shown (Ok t) = refl
+opened_shown (Err r) = refl
 
-taken_shown : (a : Answer) → answer_out a ≡ shown (of_taken a)
-taken_shown Answer-as-Accepted = refl
-taken_shown (Answer-as-Refused r) = refl
+taken_shown : (a : Judged) → answer_out a ≡ shown (verdict_on a)
+taken_shown (Ok _) = refl
+taken_shown (Err r) = refl
 
-loss_shown : (a : LossRead) → (loss_out a).refusal ≡ shown (of_loss a)
-loss_shown (LossRead-as-Loss l) = refl
-loss_shown (LossRead-as-Refused r) = refl
+loss_shown : (a : Result EffectiveLoss Refusal) → (loss_out a).refusal ≡ shown (verdict_on a)
+loss_shown (Ok l) = refl
+loss_shown (Err r) = refl
 
-marks_shown : (a : Planned) → (marks_out a).refusal ≡ shown (of_planned a)
-marks_shown (Marks n) = refl
-marks_shown (Planned-as-Refused r) = refl
+marks_shown : (a : Result ℕ Refusal) → (marks_out a).refusal ≡ shown (verdict_on a)
+marks_shown (Ok n) = refl
+marks_shown (Err r) = refl
 
 -- a call by an event's number: where every event has these rows, and no event is 15
-by_event : (call : EventRead → Refusal) (rows : List Row) → ((event : Event) → call (Known event) ≡ shown (judged_by rows)) → call Unknown ≡ setting →
+by_event : (call : Option Event → RefusalFields) (rows : List Row) → ((event : Event) → call (Some event) ≡ shown (judged_by rows)) → call None ≡ refusal_out setting →
     (n : ℕ) → call (event_in n) ≡ shown (judged_by (when (no_event n) setting ∷ rows))
 unfolding event_in judged_by
 by_event call rows known unknown n = go (eqb n lost) (eqb n discarded) (eqb n either)
   where
-    go : (a b c : Bool) → call (cond a (Known Lost) (cond b (Known Discarded) (cond c (Known Either) Unknown))) ≡ shown (judged_by (when (not (a || b || c)) setting ∷ rows))
+    go : (a b c : Bool) → call (cond a (Some Lost) (cond b (Some Discarded) (cond c (Some Either) None))) ≡ shown (judged_by (when (not (a || b || c)) setting ∷ rows))
     go true b c = known Lost
     go false true c = known Discarded
     go false false true = known Either
     go false false false = unknown
 
 -- and a number that is no event
-unknown : (n : ℕ) → no_event n ≡ true → event_in n ≡ Unknown
+unknown : (n : ℕ) → no_event n ≡ true → event_in n ≡ None
 unfolding event_in
 unknown n = go (eqb n lost) (eqb n discarded) (eqb n either)
   where
-    go : (a b c : Bool) → not (a || b || c) ≡ true → cond a (Known Lost) (cond b (Known Discarded) (cond c (Known Either) Unknown)) ≡ Unknown
+    go : (a b c : Bool) → not (a || b || c) ≡ true → cond a (Some Lost) (cond b (Some Discarded) (cond c (Some Either) None)) ≡ None
     go true b c h = let z : ◌≡◌ {A = ℕ} 0 1 = cc in absurd (omega arith)
     go false true c h = let z : ◌≡◌ {A = ℕ} 0 1 = cc in absurd (omega arith)
     go false false true h = let z : ◌≡◌ {A = ℕ} 0 1 = cc in absurd (omega arith)
     go false false false h = refl
 
 no_event_lem : (t : TallyNumbers) (packet source flag : ℕ) → no_event t.event ≡ true →
-    (take_by t packet (tally_in t) ≡ record { refusal = setting; tally = t })
-    × ((close_by (tally_in t)).refusal ≡ setting) × ((block_by source flag (tally_in t)).refusal ≡ setting)
+    (take_by t packet (tally_in t) ≡ record { refusal = refusal_out setting; tally = t })
+    × ((close_by (tally_in t)).refusal ≡ refusal_out setting) × ((block_by source flag (tally_in t)).refusal ≡ refusal_out setting)
 no_event_lem t packet source flag h =
-    let read : tally_in t ≡ Tally-as-Unknown = ap (tally_with t) (unknown t.event h) in
+    let read : tally_in t ≡ None = ap (tally_with t) (unknown t.event h) in
     rw read (refl, refl, refl)
 
 -- where a call by an event's number refuses, the buffer that it was lent is as it was
-plan_unchanged : (s : List ℕ) (b t : ℕ) (out : List ℕ) (e : EventRead) → ((plan_by s b t out e).refusal ≡ none → ⊥) → plan_after_by s b t out e ≡ out
-plan_unchanged s b t out Unknown h = refl
-plan_unchanged s b t out (Known event) h = go (plan_answer (judged s) (counted_at event s) (length s) b t out) refl h
+plan_unchanged : (s : List ℕ) (b t : ℕ) (out : List ℕ) (e : Option Event) → ((plan_by s b t out e).refusal ≡ none → ⊥) → plan_after_by s b t out e ≡ out
+plan_unchanged s b t out None h = refl
+plan_unchanged s b t out (Some event) h = go (plan_answer (judged s) (counted_at event s) (length s) b t out) refl h
   where
-    go : (a : Planned) → plan_answer (judged s) (counted_at event s) (length s) b t out ≡ a → ((marks_out a).refusal ≡ none → ⊥) →
+    go : (a : Result ℕ Refusal) → plan_answer (judged s) (counted_at event s) (length s) b t out ≡ a → ((marks_out a).refusal ≡ none → ⊥) →
         buffer_after (judged s) (counted_at event s) (length s) b t out ≡ out
-    go (Marks n) is some = absurd (some refl)
-    go (Planned-as-Refused r) is some = refused_unchanged _ _ _ b t out r is
+    go (Ok n) is some = absurd (some refl)
+    go (Err r) is some = refused_unchanged _ _ _ b t out r is
 
-pack_unchanged : (s out : List ℕ) (e : EventRead) → ((written_out (pack_by s out e)).refusal ≡ none → ⊥) → pack_after_by s out e ≡ out
-pack_unchanged s out Unknown h = refl
-pack_unchanged s out (Known event) h = go (pack_answer s out) h
+pack_unchanged : (s out : List ℕ) (e : Option Event) → ((written_out (pack_by s out e)).refusal ≡ none → ⊥) → pack_after_by s out e ≡ out
+pack_unchanged s out None h = refl
+pack_unchanged s out (Some event) h = go (pack_answer s out) h
   where
     go : (a : Written) → ((written_out a).refusal ≡ none → ⊥) → after a (words_of (counted_at event s) (length s)) out ≡ out
-    go (Size n) some = absurd (some refl)
-    go (Written-as-Refused r) some = refl
+    go (Ok n) some = absurd (some refl)
+    go (Err r) some = refl
 
 pub at_boundary : AtBoundary
 at_boundary =

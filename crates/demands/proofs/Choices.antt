@@ -8,7 +8,6 @@ use native.Mathlib.Omega.{arith}
 use borrow.Author.Tests.{eqb-true, eq-eqb}
 use lib.Dec.{eqb}
 use lib.ListN.{length}
-use Rattle.refusal.specs.declared.Judged.{Judged}
 use Rattle.trace.specs.declared.Event.{Event}
 use Rattle.trace.specs.declared.Event.TheVariants.{Lost}
 use Rattle.trace.specs.Trace.{counts_as, counted_at, judged, flagged}
@@ -23,6 +22,7 @@ use Rattle.resend.specs.Answer.{plan_answer, buffer_after}
 use Rattle.resend.proofs.Same.{same_plan}
 use Rattle.packing.proofs.BothWays.{pack_as_before}
 use Rattle.demands.specs.Choices.{AsLost, ChoicesKept}
+use Rattle.refusal.specs.Answer.{Judged}
 
 -- the events of a trace are the lost of its flags
 events_same : (event : Event) (at : ℕ) (s : List ℕ) → events_from (counts_as event) at s ≡ events_from (counts_as Lost) at (flagged event s)

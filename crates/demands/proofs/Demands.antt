@@ -9,8 +9,6 @@ use lib.Dec.{leb, ltb}
 use Rattle.refusal.specs.Answer.{unless, after}
 use Rattle.refusal.specs.Table.{setting, trace_length, trace_byte}
 use Rattle.refusal.specs.declared.Refusal.{Refusal}
-use Rattle.refusal.specs.declared.Written.{Written}
-use Rattle.refusal.specs.declared.Written.TheVariants.{Refused}
 use Rattle.settings.specs.Ranges.{limits}
 use Rattle.card.proofs.Cases.{limits_fit}
 use Rattle.card.proofs.Damage.{changed_refused, exchanged_refused}
@@ -23,12 +21,10 @@ use Rattle.block.proofs.RleLaws.{rle_exactly, d1_exactly, d2_exactly, d5_exactly
 use Rattle.runs.proofs.Again.{trace_of_block, added_read}
 use Rattle.runs.proofs.Fewest.{written_chunks, chunk_count, fewest}
 use Rattle.tally.specs.declared.Tally.{Tally}
-use Rattle.tally.specs.declared.Answer.TheVariants.{Accepted as Answer-as-Accepted, Refused as Answer-as-Refused}
 use Rattle.tally.specs.Tally.{sound, step_of, refused_with, take_one}
 use Rattle.resend.proofs.Answering.{refused_unchanged, plan_best}
 use Rattle.resend.proofs.Repair.{few_left}
 use Rattle.frame.specs.Packet.{packet_of}
-use Rattle.compare.specs.declared.Compared.{Compared}
 use Rattle.compare.specs.Answer.{differences_of, with_differences}
 use Rattle.compare.specs.Differences.{content_of}
 use Rattle.compare.proofs.Contents.{content_at_lem}
@@ -44,18 +40,20 @@ use Rattle.demands.proofs.Formulas.{as_published, never_unavailable}
 use Rattle.demands.proofs.Panels.{panels_shown}
 use Rattle.demands.proofs.Packed.{same_figures, packed_kept}
 use Rattle.demands.proofs.Choices.{choices_kept}
+use Rattle.std.specs.Prelude.{Result, Ok, Err}
+use Rattle.refusal.specs.Answer.{Written}
 
-kept : (answer : Written) (result out : List ℕ) (r : Refusal) → answer ≡ Refused r → after answer result out ≡ out
+kept : (answer : Written) (result out : List ℕ) (r : Refusal) → answer ≡ Err r → after answer result out ≡ out
 kept answer result out r h = rw h
 
 -- a tally that refused a packet
-given_back : (t : Tally) (packet : ℕ) (r : Refusal) → (take_one t packet).answer ≡ Answer-as-Refused r → (take_one t packet).tally ≡ t
+given_back : (t : Tally) (packet : ℕ) (r : Refusal) → (take_one t packet).answer ≡ Err r → (take_one t packet).tally ≡ t
 unfolding take_one
 given_back t packet r = go (sound t) (ltb t.sums.packets trace_max) (leb packet packet_max)
   where
     go : (a b c : Bool) →
-        (unless a (refused_with t setting) (unless b (refused_with t trace_length) (unless c (refused_with t (trace_byte 0)) (record { tally = step_of t packet; answer = Answer-as-Accepted })))).answer ≡ Answer-as-Refused r →
-        (unless a (refused_with t setting) (unless b (refused_with t trace_length) (unless c (refused_with t (trace_byte 0)) (record { tally = step_of t packet; answer = Answer-as-Accepted })))).tally ≡ t
+        (unless a (refused_with t setting) (unless b (refused_with t trace_length) (unless c (refused_with t (trace_byte 0)) (record { tally = step_of t packet; answer = (Ok (tt {0})) })))).answer ≡ Err r →
+        (unless a (refused_with t setting) (unless b (refused_with t trace_length) (unless c (refused_with t (trace_byte 0)) (record { tally = step_of t packet; answer = (Ok (tt {0})) })))).tally ≡ t
     go false b c h = refl
     go true false c h = refl
     go true true false h = refl
@@ -66,7 +64,7 @@ unchanged =
     record {
       card_write = λ s out r h. kept _ _ out r h;
       packet_list = λ s out r h. kept _ _ out r h;
-      packet_compare = λ s t out r h. ap (λ (answer : Compared). with_differences answer (differences_of (packet_of s) (packet_of t)) out) h;
+      packet_compare = λ s t out r h. ap (λ (answer : Result ℕ Refusal). with_differences answer (differences_of (packet_of s) (packet_of t)) out) h;
       packet_new = λ sender out r h. kept _ _ out r h;
       packet_add = λ out b r h. kept _ _ out r h;
       packet_rle = λ s k out r h. kept _ _ out r h;

@@ -5,8 +5,6 @@ use mathlib.Core.List.{List}
 use native.Mathlib.Nat.{zero-add}
 use lib.ListN.{length, take}
 use Rattle.refusal.specs.Answer.{after}
-use Rattle.refusal.specs.declared.Written.{Written}
-use Rattle.refusal.specs.declared.Judged.{Judged}
 use Rattle.trace.specs.declared.Event.{Event}
 use Rattle.trace.specs.Trace.{counted_at, judged}
 use Rattle.trace.specs.Laws.{IsTrace}
@@ -23,6 +21,7 @@ use Rattle.packing.specs.Packing.{unpack_answer}
 use Rattle.packing.specs.Laws.{packed_into}
 use Rattle.packing.proofs.BothWays.{packed_form, pack_unpack, pack_back, unpack_pack, behind_kept}
 use Rattle.demands.specs.Packed.{SameFigures, NeededAlone, PackedKept}
+use Rattle.refusal.specs.Answer.{Judged, Written}
 
 pub same_figures : (event : Event) (s buffer : List ℕ) (b t : ℕ) (out : List ℕ) → IsTrace s → words_for (length s) ≤ length buffer → SameFigures event s (packed_into event s buffer) b t out
 same_figures event s buffer b t out w enough =

@@ -9,18 +9,18 @@ use lib.Dec.{eqb}
 use Rattle.refusal.specs.Answer.{unless}
 use Rattle.refusal.specs.Table.{no_such_block}
 use Rattle.refusal.specs.declared.Refusal.{Refusal}
-use Rattle.block.specs.Types.{loss_type, discard_type, unmeasured}
+use Rattle.block.specs.Types.{loss_type, discard_type}
 use Rattle.block.specs.Reading.{unavailable}
 use Rattle.block.specs.declared.Block.{Block}
 use Rattle.block.specs.declared.Block.TheVariants.{Measured, Loss, Discard, Effective, Streams}
 use Rattle.block.specs.declared.BlockRead.TheVariants.{Typed, Dropped}
 use Rattle.encode.specs.Words.{writable}
 use Rattle.frame.specs.Frames.{Entry}
-use Rattle.frame.specs.Packet.{Packet, good, bad, Numbered, none, one, numbered, packet_of}
-use Rattle.packet.specs.declared.BlockAt.TheVariants.{Found, Refused}
-use Rattle.packet.specs.Answers.{found, block_of}
+use Rattle.frame.specs.Packet.{Packet, good, bad, numbered, packet_of}
+use Rattle.packet.specs.Answers.{found, block_of, answered}
 use Rattle.packet.specs.Blocks.{read_alone, read_in}
 use Rattle.packet.proofs.Judging.{own_but_unmeasured}
+use Rattle.packet.proofs.Named.{answered_parts}
 use Rattle.dials.specs.Panel.{dark, summary_panel, panel_of, panel_read, panel_at}
 use Rattle.dials.specs.Laws.{needles}
 use Rattle.dials.proofs.Value.{position_value, position_bits}
@@ -29,8 +29,11 @@ use Rattle.dials.proofs.Panels.{lit, unlit, needle_tells, typed_shown, lamp_off_
 use Rattle.ffi_block.specs.Answers.{read_out}
 use Rattle.ffi_packet.specs.Answers.{block_out}
 use Rattle.ffi_panel.specs.Answers.{panel_in}
-use Rattle.ffi_panel.proofs.Panels.{no_summary_lem, dropped, panel_of_read}
+use Rattle.ffi_panel.proofs.Panels.{no_summary_lem, panel_of_read}
 use Rattle.demands.specs.Panels.{InPacket, PanelsShown}
+use Rattle.block.specs.declared.Reason.TheVariants.{Unmeasured}
+use Rattle.refusal.specs.Table.{refusal_number}
+use Rattle.std.specs.Prelude.{Ok, Err, Option, Some, None}
 
 let_through : (b : Block) → panel_of b ≡ unless (writable b) dark (needles b)
 unfolding summary_panel
@@ -47,7 +50,7 @@ module _ (es : List Entry) (e : Entry) where
   unfolding read_alone
   typed_in b h = go (own_but_unmeasured es e)
     where
-      go : (read_in es e ≡ read_alone e) ⊎ (read_in es e ≡ Dropped unmeasured) → panel_of b ≡ needles b
+      go : (read_in es e ≡ read_alone e) ⊎ (read_in es e ≡ Dropped Unmeasured) → panel_of b ≡ needles b
       go (inl own) = typed_shown e.kind e.specific e.body b (sym own ∙ h)
       go (inr d) = let z : ◌≡◌ {A = ℕ} 0 1 = cc in absurd (omega arith)
 
@@ -55,21 +58,21 @@ module _ (es : List Entry) (e : Entry) where
   unfolding read_alone
   handed_in = go (own_but_unmeasured es e)
     where
-      go : (read_in es e ≡ read_alone e) ⊎ (read_in es e ≡ Dropped unmeasured) → panel_in (read_out e.kind (read_in es e)) ≡ panel_read (read_in es e)
+      go : (read_in es e ≡ read_alone e) ⊎ (read_in es e ≡ Dropped Unmeasured) → panel_in (read_out e.kind (read_in es e)) ≡ panel_read (read_in es e)
       go (inl own) = rw own (panel_of_read e.kind e.specific e.body)
-      go (inr d) = rw d (dropped e.kind unmeasured (omega arith))
+      go (inr d) = rw d (no_summary_lem _ refl)
 
-typed_at : (p : Packet) (k type : ℕ) (b : Block) → block_of p k ≡ Found type (Typed b) → panel_of b ≡ needles b
+typed_at : (p : Packet) (k type : ℕ) (b : Block) → block_of p k ≡ answered type (Typed b) → panel_of b ≡ needles b
 typed_at (bad r) k type b h = let z : ◌≡◌ {A = ℕ} 0 1 = cc in absurd (omega arith)
 typed_at (good sender es) k type b h = go (numbered es k) h
   where
-    go : (n : Numbered) → found es n ≡ Found type (Typed b) → panel_of b ≡ needles b
-    go none h = let z : ◌≡◌ {A = ℕ} 0 1 = cc in absurd (omega arith)
-    go (one e) h = let typed : read_in es e ≡ Typed b = cc in typed_in es e b typed
+    go : (n : Option Entry) → found es n ≡ answered type (Typed b) → panel_of b ≡ needles b
+    go None h = let z : ◌≡◌ {A = ℕ} 0 1 = cc in absurd (omega arith)
+    go (Some e) h = typed_in es e b (answered_parts e.kind type (read_in es e) (Typed b) h).1
 
 -- a refused block has no verdict that is typed, whatever its number
-refused_in : (r : Refusal) → panel_in (block_out (Refused r)) ≡ dark
-refused_in r = no_summary_lem (block_out (Refused r)) (untyped (eqb r.number 0) (eqb 0 loss_type || eqb 0 discard_type))
+refused_in : (r : Refusal) → panel_in (block_out (Err r)) ≡ dark
+refused_in r = no_summary_lem (block_out (Err r)) (untyped (eqb (refusal_number r) 0) (eqb 0 loss_type || eqb 0 discard_type))
   where
     untyped : (a b : Bool) → (a && false && b) ≡ false
     untyped true b = refl
@@ -79,9 +82,9 @@ of_block_lem : (p : Packet) (k : ℕ) → panel_in (block_out (block_of p k)) �
 of_block_lem (bad r) k = refused_in r
 of_block_lem (good sender es) k = go (numbered es k)
   where
-    go : (n : Numbered) → panel_in (block_out (found es n)) ≡ panel_at (found es n)
-    go none = refused_in no_such_block
-    go (one e) = handed_in es e
+    go : (n : Option Entry) → panel_in (block_out (found es n)) ≡ panel_at (found es n)
+    go None = refused_in no_such_block
+    go (Some e) = handed_in es e
 
 in_packet : (s : List ℕ) (k type : ℕ) → InPacket s k type
 in_packet s k type =

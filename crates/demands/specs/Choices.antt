@@ -1,16 +1,16 @@
 -- What counts as a loss: document 02, ticket 7, "the caller chooses what counts as a loss: lost only, discarded only, or either."
-use Rattle.std.specs.Prelude.{ℕ, ◌≡◌, true, List, ◌↔◌, ◌⊎◌, length}
+use Rattle.std.specs.Prelude.{ℕ, ◌≡◌, true, List, ◌↔◌, ◌⊎◌, length, Result, Err}
 use Rattle.refusal.specs.Table.{setting}
 use Rattle.trace.specs.declared.Event.{Event}
 use Rattle.trace.specs.declared.Event.TheVariants.{Lost, Discarded, Either}
 use Rattle.trace.specs.Trace.{counts_as, counted_at, judged, flagged}
 use Rattle.trace.specs.Laws.{IsTrace}
-use Rattle.bursts.specs.declared.FiguresRead.{FiguresRead}
-use Rattle.figures.specs.declared.Summary.TheVariants.{Refused}
 use Rattle.figures.specs.Figures.{figures_in, summary_of}
 use Rattle.batch.specs.Loss.{loss_answer}
 use Rattle.resend.specs.Answer.{plan_answer, buffer_after}
 use Rattle.packing.specs.Laws.{PackAsBefore}
+use Rattle.bursts.specs.declared.Figures.{Figures}
+use Rattle.refusal.specs.declared.Refusal.{Refusal}
 
 -- "Bursts, effective loss and the plan all take it.": by every choice the answers, and the bytes of the plan, are those by lost only of
 -- the trace with the counted packets as 1 and the others as 0.
@@ -32,4 +32,4 @@ pub record ChoicesKept : Type 0 where
   -- answers as it did where nothing was discarded
   pub pack_before : PackAsBefore
   -- "Blocks 17 and 18 keep their own events.": none comes from either
-  pub no_block : (source flag : ℕ) (m : FiguresRead) → summary_of Either source flag m ≡ Refused setting
+  pub no_block : (source flag : ℕ) (m : Result Figures Refusal) → summary_of Either source flag m ≡ Err setting

@@ -1,11 +1,9 @@
 -- The three demands, sentence by sentence, over the definitions that the calls promise; the files beside this one spell out
 -- what a field of demands 1 and 2 says of each call. proofs/Demands.antt proves all three.
-use Rattle.std.specs.Prelude.{ℕ, ◌<◌, ◌≤◌, ◌≡◌, true, List, length, get_or, take}
+use Rattle.std.specs.Prelude.{ℕ, ◌<◌, ◌≤◌, ◌≡◌, true, List, length, get_or, take, Result, Ok}
 use Rattle.trace.specs.declared.Event.{Event}
 use Rattle.trace.specs.Trace.{counted_at, judged}
 use Rattle.batch.specs.Batches.{batches, losses_in}
-use Rattle.resend.specs.declared.Planned.{Planned}
-use Rattle.resend.specs.declared.Planned.TheVariants.{Marks}
 use Rattle.resend.specs.Plans.{IsPlan, marked, marks, Valid, DifferFirst, resent}
 use Rattle.resend.specs.Answer.{plan_answer, Plannable}
 use Rattle.resend.specs.Laws.{plan_in}
@@ -21,6 +19,7 @@ use Rattle.demands.specs.Runs.{RunsKept}
 use Rattle.demands.specs.Packed.{packed_plan, packed_plan_after, PackedKept}
 use Rattle.demands.specs.Choices.{ChoicesKept}
 use Rattle.demands.specs.Cards.{CardsGuarded}
+use Rattle.refusal.specs.declared.Refusal.{Refusal}
 
 -- 1.
 pub record Demand1 : Type 0 where
@@ -58,14 +57,14 @@ pub record Demand2 : Type 0 where
 
 -- 3. The plan p of a trace by a choice of what counts, and what the call answered that left it in a lent buffer. Document 02, ticket 7:
 -- the demand "reads "counted packets" for "lost packets" and for "losses""; by lost only it is the demand as it stood.
-pub record Plan (event : Event) (s : List ℕ) (b t : ℕ) (answer : Planned) (p : List ℕ) : Type 0 where
+pub record Plan (event : Event) (s : List ℕ) (b t : ℕ) (answer : Result ℕ Refusal) (p : List ℕ) : Type 0 where
   pub is_plan : IsPlan (length s) p
   -- "the resend plan marks [counted] packets only;"
   pub counted_only : (i : ℕ) → i < length s → marked p i ≡ true → counted_at event s i ≡ true
   -- "with the marked ones counted as received no batch holds more [counted packets] than the threshold;"
   pub none_over : (k : ℕ) → k < batches (length s) b → losses_in (counted_at event (resent s p)) b k ≤ t
   -- "the count it gives is the number of its marks;"
-  pub count : answer ≡ Marks (marks p)
+  pub count : answer ≡ Ok (marks p)
   -- "every other plan that marks [counted] packets only and leaves no batch over has at least that many marks;"
   pub fewest : (q : List ℕ) → Valid (counted_at event s) (length s) b t q → marks p ≤ marks q
   -- "if one has exactly that many, then at the first packet where it differs from ours, it has a mark and ours has none."

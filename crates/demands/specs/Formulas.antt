@@ -1,7 +1,6 @@
 -- The published formulas: document 01, "The trace and its figures", with document 02's variance (ticket 3), and documents 003
 -- and 002. E, L, Eb, Lb, n, S and Q are the fields of `Sums`, in that order.
-use Rattle.std.specs.Prelude.{ℕ, ◌+◌, ◌-◌, ◌*◌, ◌/◌, ◌<◌, ◌≤◌, ◌≡◌, Bool, List, ltb, length}
-use Rattle.refusal.specs.declared.Judged.TheVariants.{Accepted as Judged-as-Accepted}
+use Rattle.std.specs.Prelude.{ℕ, ◌+◌, ◌-◌, ◌*◌, ◌/◌, ◌<◌, ◌≤◌, ◌≡◌, Bool, List, ltb, length, Ok}
 use Rattle.block.specs.declared.LossSummary.{LossSummary}
 use Rattle.block.specs.declared.DiscardSummary.{DiscardSummary}
 use Rattle.trace.specs.Sum.{count}
@@ -10,22 +9,19 @@ use Rattle.trace.specs.declared.Event.TheVariants.{Lost, Discarded}
 use Rattle.trace.specs.Trace.{counts_as, counted_at, judged}
 use Rattle.bursts.specs.declared.Sums.{Sums}
 use Rattle.bursts.specs.declared.Figures.{Figures}
-use Rattle.bursts.specs.declared.FiguresRead.TheVariants.{Accepted}
 use Rattle.bursts.specs.Groups.{Group, bursts_of, packets_of, total}
 use Rattle.bursts.specs.Sums.{sums_of}
 use Rattle.bursts.specs.Grouping.{IsEvents, group, IsGrouping, ByPosition}
 use Rattle.bursts.specs.Spread.{bursts_in}
 use Rattle.tally.specs.declared.Tally.{Tally}
-use Rattle.tally.specs.declared.Opened.TheVariants.{Accepted as Opened-as-Accepted}
 use Rattle.tally.specs.Tally.{open_of, counted, take_each, close_of}
 use Rattle.tally.specs.Laws.{ClosesRight}
-use Rattle.figures.specs.declared.Summary.TheVariants.{Loss, Discard}
 use Rattle.figures.specs.Figures.{figures_in, summary_of}
 use Rattle.figures.specs.Laws.{TraceRight, TraceSummary, TallySummary}
 use Rattle.batch.specs.declared.EffectiveLoss.{EffectiveLoss}
-use Rattle.batch.specs.declared.LossRead.TheVariants.{Loss as LossRead-as-Loss}
 use Rattle.batch.specs.Laws.{FirstMeans}
 use Rattle.batch.specs.Loss.{loss_answer}
+use Rattle.figures.specs.declared.Summary.TheVariants.{Loss, Discard}
 
 -- "duration of a burst: integer part of its packets × spacing / 1000", as in crate bursts, spelled out
 abbrev pub lasts : ℕ → Group → ℕ
@@ -79,25 +75,25 @@ pub record EffectiveLossFormulas (lost : ℕ → Bool) (e b t : ℕ) (l : Effect
 pub record AsPublished : Type 0 where
   pub sums : (event : Event) (gmin spacing : ℕ) (s : List ℕ) → SumsFormulas event gmin spacing s (sums_of (counts_as event) gmin spacing s)
   -- of a trace: figures, and the blocks that carry them
-  pub trace_figures : (event : Event) (gmin spacing : ℕ) (s : List ℕ) (f : Figures) → figures_in gmin spacing event s ≡ Accepted f →
+  pub trace_figures : (event : Event) (gmin spacing : ℕ) (s : List ℕ) (f : Figures) → figures_in gmin spacing event s ≡ Ok f →
       FiguresFormulas (sums_of (counts_as event) gmin spacing s) f
   -- bursts of one duration have variance 0
-  pub one_duration : (event : Event) (gmin spacing d : ℕ) (s : List ℕ) (f : Figures) → figures_in gmin spacing event s ≡ Accepted f →
+  pub one_duration : (event : Event) (gmin spacing d : ℕ) (s : List ℕ) (f : Figures) → figures_in gmin spacing event s ≡ Ok f →
       0 < length (bursts_in (counts_as event) gmin s) →
       ((k : ℕ) → k < length (bursts_in (counts_as event) gmin s) → lasts spacing (group (bursts_in (counts_as event) gmin s) k) ≡ d) →
       f.burst_variance ≡ 0
   pub trace_17 : (event : Event) (gmin spacing : ℕ) (s : List ℕ) (source flag : ℕ) (l : LossSummary) →
-      summary_of event source flag (figures_in gmin spacing event s) ≡ Loss l → Block17 event (sums_of (counts_as event) gmin spacing s) l
+      summary_of event source flag (figures_in gmin spacing event s) ≡ Ok (Loss l) → Block17 event (sums_of (counts_as event) gmin spacing s) l
   pub trace_18 : (event : Event) (gmin spacing : ℕ) (s : List ℕ) (source flag : ℕ) (d : DiscardSummary) →
-      summary_of event source flag (figures_in gmin spacing event s) ≡ Discard d → Block18 event (sums_of (counts_as event) gmin spacing s) d
+      summary_of event source flag (figures_in gmin spacing event s) ≡ Ok (Discard d) → Block18 event (sums_of (counts_as event) gmin spacing s) d
   -- of any tally, and of one that took a trace
-  pub tally_figures : (t : Tally) (f : Figures) → close_of t ≡ Accepted f → FiguresFormulas (counted t) f
-  pub tally_17 : (t : Tally) (source flag : ℕ) (l : LossSummary) → summary_of t.event source flag (close_of t) ≡ Loss l → Block17 t.event (counted t) l
-  pub tally_18 : (t : Tally) (source flag : ℕ) (d : DiscardSummary) → summary_of t.event source flag (close_of t) ≡ Discard d → Block18 t.event (counted t) d
-  pub tallied : (gmin spacing : ℕ) (event : Event) (t : Tally) (s : List ℕ) → open_of gmin spacing event ≡ Opened-as-Accepted t → judged s ≡ Judged-as-Accepted →
+  pub tally_figures : (t : Tally) (f : Figures) → close_of t ≡ Ok f → FiguresFormulas (counted t) f
+  pub tally_17 : (t : Tally) (source flag : ℕ) (l : LossSummary) → summary_of t.event source flag (close_of t) ≡ Ok (Loss l) → Block17 t.event (counted t) l
+  pub tally_18 : (t : Tally) (source flag : ℕ) (d : DiscardSummary) → summary_of t.event source flag (close_of t) ≡ Ok (Discard d) → Block18 t.event (counted t) d
+  pub tallied : (gmin spacing : ℕ) (event : Event) (t : Tally) (s : List ℕ) → open_of gmin spacing event ≡ Ok t → judged s ≡ (Ok tt) →
       close_of (take_each t s) ≡ figures_in gmin spacing event s
   pub effective_loss : (event : Event) (s : List ℕ) (b t : ℕ) (l : EffectiveLoss) →
-      loss_answer (judged s) (counted_at event s) (length s) b t ≡ LossRead-as-Loss l → EffectiveLossFormulas (counted_at event s) (length s) b t l
+      loss_answer (judged s) (counted_at event s) (length s) b t ≡ Ok l → EffectiveLossFormulas (counted_at event s) (length s) b t l
 
 -- Of a trace's figures and of any tally's, and of the blocks made from them: a figure is unavailable exactly where its
 -- denominator is 0. Figures from elsewhere (figures::loss_block, discard_block) are laid out as given, whatever they say.

@@ -1,23 +1,23 @@
 -- Packed traces, document 02, tickets 6 and 7, said of the words that packing leaves in a lent buffer and of what the calls answer.
-use Rattle.std.specs.Prelude.{ℕ, ◌≤◌, ◌≡◌, List, length, take}
+use Rattle.std.specs.Prelude.{ℕ, ◌≤◌, ◌≡◌, List, length, take, Result}
 use Rattle.trace.specs.declared.Event.{Event}
 use Rattle.trace.specs.Trace.{counted_at, judged}
 use Rattle.trace.specs.Laws.{IsTrace}
-use Rattle.batch.specs.declared.LossRead.{LossRead}
 use Rattle.batch.specs.Loss.{loss_answer}
-use Rattle.resend.specs.declared.Planned.{Planned}
 use Rattle.resend.specs.Answer.{plan_answer, buffer_after}
 use Rattle.packed.specs.Words.{words_for, one_in}
 use Rattle.packed.specs.Judging.{judged_packed}
 use Rattle.packed.specs.Laws.{AcceptedPacked, PackedAccepted, FirstPast, NeededExactly, NeededPackets, NeededVerdict}
 use Rattle.packing.specs.Packing.{unpack_answer}
 use Rattle.packing.specs.Laws.{packed_into, unpacked_into, PackedForm, PackUnpack, PackBack, UnpackPack, BehindKept}
+use Rattle.batch.specs.declared.EffectiveLoss.{EffectiveLoss}
+use Rattle.refusal.specs.declared.Refusal.{Refusal}
 
 -- effective loss and plan of so many packets in words
-abbrev pub packed_loss : List ℕ → ℕ → ℕ → ℕ → LossRead
+abbrev pub packed_loss : List ℕ → ℕ → ℕ → ℕ → Result EffectiveLoss Refusal
 packed_loss words packets b t = loss_answer (judged_packed words packets) (one_in words) packets b t
 
-abbrev pub packed_plan : List ℕ → ℕ → ℕ → ℕ → List ℕ → Planned
+abbrev pub packed_plan : List ℕ → ℕ → ℕ → ℕ → List ℕ → Result ℕ Refusal
 packed_plan words packets b t out = plan_answer (judged_packed words packets) (one_in words) packets b t out
 
 abbrev pub packed_plan_after : List ℕ → ℕ → ℕ → ℕ → List ℕ → List ℕ

@@ -1,5 +1,5 @@
 -- The front panel, document 02, ticket 4, said of blocks given as values and of what the calls on a packet answer.
-use Rattle.std.specs.Prelude.{ℕ, ◌≤◌, ◌≡◌, List}
+use Rattle.std.specs.Prelude.{ℕ, ◌≤◌, ◌≡◌, List, Err}
 use Rattle.refusal.specs.Answer.{unless}
 use Rattle.refusal.specs.declared.Refusal.{Refusal}
 use Rattle.block.specs.Reading.{rate_max, unavailable}
@@ -8,15 +8,15 @@ use Rattle.block.specs.declared.Block.{Block}
 use Rattle.block.specs.declared.BlockRead.TheVariants.{Typed, Rle, Unknown, Dropped}
 use Rattle.encode.specs.Words.{writable}
 use Rattle.frame.specs.Packet.{packet_of}
-use Rattle.packet.specs.declared.BlockAt.TheVariants.{Found, Refused}
-use Rattle.packet.specs.Answers.{block_of}
-use Rattle.dials.specs.declared.Needle.TheVariants.{Lit, Dark}
+use Rattle.packet.specs.Answers.{block_of, answered}
 use Rattle.dials.specs.Position.{position}
+use Rattle.dials.specs.declared.Needle.TheVariants.{Lit, Dark}
 use Rattle.dials.specs.Panel.{needle_of, dark, panel_of, panel_at}
 use Rattle.dials.specs.Laws.{PositionValue, PositionBits, PositionEnds, PositionRange, PositionOrder, NeedleTells, needles, LampOffExactly}
 use Rattle.ffi_packet.specs.Answers.{block_out}
 use Rattle.ffi_panel.specs.Answers.{panel_in}
 use Rattle.ffi_panel.specs.Laws.{PanelOfRead}
+use Rattle.block.specs.declared.Reason.{Reason}
 
 -- "a fraction from 0 to 1 as an f32: a rate divided by 32,768, which is exact, so its bits follow from the rate"
 pub record PositionsExact : Type 0 where
@@ -28,11 +28,11 @@ pub record PositionsExact : Type 0 where
 
 -- block k of the packet s
 pub record InPacket (s : List ℕ) (k type : ℕ) : Type 0 where
-  pub typed : (b : Block) → block_of (packet_of s) k ≡ Found type (Typed b) → panel_at (block_of (packet_of s) k) ≡ needles b
-  pub rle : (r : LossRle) → block_of (packet_of s) k ≡ Found type (Rle r) → panel_at (block_of (packet_of s) k) ≡ dark
-  pub unknown : block_of (packet_of s) k ≡ Found type Unknown → panel_at (block_of (packet_of s) k) ≡ dark
-  pub dropped : (reason : ℕ) → block_of (packet_of s) k ≡ Found type (Dropped reason) → panel_at (block_of (packet_of s) k) ≡ dark
-  pub refused : (r : Refusal) → block_of (packet_of s) k ≡ Refused r → panel_at (block_of (packet_of s) k) ≡ dark
+  pub typed : (b : Block) → block_of (packet_of s) k ≡ answered type (Typed b) → panel_at (block_of (packet_of s) k) ≡ needles b
+  pub rle : (r : LossRle) → block_of (packet_of s) k ≡ answered type (Rle r) → panel_at (block_of (packet_of s) k) ≡ dark
+  pub unknown : block_of (packet_of s) k ≡ answered type Unknown → panel_at (block_of (packet_of s) k) ≡ dark
+  pub dropped : (reason : Reason) → block_of (packet_of s) k ≡ answered type (Dropped reason) → panel_at (block_of (packet_of s) k) ≡ dark
+  pub refused : (r : Refusal) → block_of (packet_of s) k ≡ Err r → panel_at (block_of (packet_of s) k) ≡ dark
 
 pub record PanelsShown : Type 0 where
   pub positions : PositionsExact

@@ -1,6 +1,6 @@
 -- Document 01, "Sheet of examples": those marked P, for proof, in its order. Each is computed by the definition that
 -- the promise of its call cites.
-use Rattle.std.specs.Prelude.{ℕ, ◌+◌, ◌≡◌, List, [], ◌∷◌, map, length, replicate}
+use Rattle.std.specs.Prelude.{ℕ, ◌+◌, ◌≡◌, List, [], ◌∷◌, map, length, replicate, Result, Ok, Err, Some, None}
 use Rattle.refusal.specs.Table.{card_check, batch_length}
 use Rattle.settings.specs.Ranges.{limits}
 use Rattle.trace.specs.declared.Event.TheVariants.{Lost}
@@ -9,24 +9,17 @@ use Rattle.block.specs.Reading.{unavailable}
 use Rattle.block.specs.declared.Block.TheVariants.{Effective}
 use Rattle.block.specs.declared.BlockRead.TheVariants.{Typed}
 use Rattle.frame.specs.Packet.{packet_of}
-use Rattle.packet.specs.Answers.{head_of, block_of}
+use Rattle.packet.specs.Answers.{head_of, block_of, answered, sent}
 use Rattle.packet.specs.declared.PacketHead.{PacketHead}
-use Rattle.packet.specs.declared.PacketHead.TheVariants.{Sent}
 use Rattle.packet.specs.declared.BlockAt.{BlockAt}
-use Rattle.packet.specs.declared.BlockAt.TheVariants.{Found}
 use Rattle.card.specs.Card.{read_card}
-use Rattle.card.specs.declared.CardRead.{CardRead}
-use Rattle.card.specs.declared.CardRead.TheVariants.{Accepted, Refused}
-use Rattle.bursts.specs.declared.FiguresRead.{FiguresRead}
-use Rattle.bursts.specs.declared.FiguresRead.TheVariants.{Accepted as FiguresRead-as-Accepted}
 use Rattle.figures.specs.Figures.{figures_in}
-use Rattle.batch.specs.declared.First.TheVariants.{At, None}
-use Rattle.batch.specs.declared.LossRead.{LossRead}
-use Rattle.batch.specs.declared.LossRead.TheVariants.{Loss, Refused as Loss-as-Refused}
 use Rattle.batch.specs.Loss.{loss_answer}
-use Rattle.resend.specs.declared.Planned.{Planned}
-use Rattle.resend.specs.declared.Planned.TheVariants.{Marks}
 use Rattle.resend.specs.Answer.{plan_answer, buffer_after}
+use Rattle.batch.specs.declared.EffectiveLoss.{EffectiveLoss}
+use Rattle.bursts.specs.declared.Figures.{Figures}
+use Rattle.refusal.specs.declared.Refusal.{Refusal}
+use Rattle.settings.specs.declared.Settings.{Settings}
 
 -- what is handed in: a trace with its settings, a card, a packet
 pub data Input : Type 0 where
@@ -38,11 +31,11 @@ pub data Input : Type 0 where
 
 -- what comes back
 pub data Outcome : Type 0 where
-  loss : LossRead → Outcome
-  plan : Planned → List ℕ → Outcome
-  figures : FiguresRead → Outcome
-  settings : CardRead → Outcome
-  blocks : PacketHead → BlockAt → Outcome
+  loss : Result EffectiveLoss Refusal → Outcome
+  plan : Result ℕ Refusal → List ℕ → Outcome
+  figures : Result Figures Refusal → Outcome
+  settings : Result Settings Refusal → Outcome
+  blocks : Result PacketHead Refusal → Result BlockAt Refusal → Outcome
 
 -- a buffer as long as the trace
 abbrev pub room : List ℕ → List ℕ
@@ -62,11 +55,11 @@ pub record Example : Type 0 where
   pub expected : Outcome
 
 abbrev pub found : ℕ → ℕ → ℕ → ℕ → Outcome
-found k n i first = loss (Loss (record { over = k; batches = n; index = i; first = At first }))
+found k n i first = loss (Ok (record { over = k; batches = n; index = i; first = Some first }))
 
 abbrev pub measured : ℕ → ℕ → ℕ → ℕ → Outcome
 measured burst gap mean variance =
-    figures (FiguresRead-as-Accepted (record { burst_rate = burst; gap_rate = gap; burst_mean = mean; burst_variance = variance }))
+    figures (Ok (record { burst_rate = burst; gap_rate = gap; burst_mean = mean; burst_variance = variance }))
 
 abbrev pub trace_1 : List ℕ
 trace_1 = 0 ∷ 1 ∷ 1 ∷ 0 ∷ 1 ∷ 0 ∷ 1 ∷ 0 ∷ 0 ∷ []
@@ -75,11 +68,11 @@ abbrev pub sheet : List Example
 sheet =
     -- P1, P2
     record { given = effective trace_1 3 1; expected = found 4 7 37448 0 }
-    ∷ record { given = resend trace_1 3 1; expected = plan (Marks 2) (0 ∷ 0 ∷ 1 ∷ 0 ∷ 0 ∷ 0 ∷ 1 ∷ 0 ∷ 0 ∷ []) }
+    ∷ record { given = resend trace_1 3 1; expected = plan (Ok 2) (0 ∷ 0 ∷ 1 ∷ 0 ∷ 0 ∷ 0 ∷ 1 ∷ 0 ∷ 0 ∷ []) }
     -- P3, P4, P5
-    ∷ record { given = effective (0 ∷ 0 ∷ 0 ∷ []) 3 0; expected = loss (Loss (record { over = 0; batches = 1; index = 0; first = None })) }
+    ∷ record { given = effective (0 ∷ 0 ∷ 0 ∷ []) 3 0; expected = loss (Ok (record { over = 0; batches = 1; index = 0; first = None })) }
     ∷ record { given = effective (1 ∷ 1 ∷ 1 ∷ []) 1 0; expected = found 3 3 65535 0 }
-    ∷ record { given = effective (0 ∷ []) 2 0; expected = loss (Loss-as-Refused batch_length) }
+    ∷ record { given = effective (0 ∷ []) 2 0; expected = loss (Err batch_length) }
     -- P6, with the variance of document 02, ticket 3; P7, P8, P9
     ∷ record { given = burst_gap (1 ∷ 0 ∷ 1 ∷ 0 ∷ 0 ∷ 1 ∷ 0 ∷ 0 ∷ 0 ∷ 1 ∷ 1 ∷ []) 2 1000; expected = measured 26214 5461 2 0 }
     ∷ record { given = burst_gap (1 ∷ 1 ∷ 1 ∷ []) 16 1000; expected = measured 32768 unavailable 3 0 }
@@ -88,13 +81,13 @@ sheet =
     -- P10, P11
     ∷ record {
       given = card (0 ∷ 1 ∷ 6 ∷ 0 ∷ 0 ∷ 1 ∷ 0 ∷ 0 ∷ 0 ∷ 0 ∷ 0 ∷ 1 ∷ 0 ∷ 0 ∷ 0 ∷ 4 ∷ 0 ∷ 0 ∷ 9 ∷ 6 ∷ []);
-      expected = settings (Accepted (record { gmin = 16; batch = 100; threshold = 10; spacing = 400 }));
+      expected = settings (Ok (record { gmin = 16; batch = 100; threshold = 10; spacing = 400 }));
     }
-    ∷ record { given = card (0 ∷ 1 ∷ 6 ∷ 0 ∷ 0 ∷ 1 ∷ 0 ∷ 0 ∷ 0 ∷ 0 ∷ 0 ∷ 0 ∷ 1 ∷ 0 ∷ 0 ∷ 4 ∷ 0 ∷ 0 ∷ 9 ∷ 6 ∷ []); expected = settings (Refused card_check) }
+    ∷ record { given = card (0 ∷ 1 ∷ 6 ∷ 0 ∷ 0 ∷ 1 ∷ 0 ∷ 0 ∷ 0 ∷ 0 ∷ 0 ∷ 0 ∷ 1 ∷ 0 ∷ 0 ∷ 4 ∷ 0 ∷ 0 ∷ 9 ∷ 6 ∷ []); expected = settings (Err card_check) }
     -- P12
     ∷ record {
       given = packet (128 ∷ 207 ∷ 0 ∷ 4 ∷ 0 ∷ 0 ∷ 0 ∷ 1 ∷ 240 ∷ 0 ∷ 0 ∷ 2 ∷ 0 ∷ 0 ∷ 0 ∷ 2 ∷ 146 ∷ 72 ∷ 0 ∷ 0 ∷ []);
-      expected = blocks (Sent 1 1) (Found 240 (Typed (Effective (record { source = 2; index = 37448 }))));
+      expected = blocks (sent 1 1) (answered 240 (Typed (Effective (record { source = 2; index = 37448 }))));
     }
     ∷ []
 
