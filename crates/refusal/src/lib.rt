@@ -2,8 +2,9 @@
 // table; no other crate knows a refusal's number. specs/Table.antt is the same table for the promises.
 #![tactic(auto)]
 
-ghost use Rattle.std.specs.Prelude.{◌≡◌};
+ghost use Rattle.std.specs.Prelude.{◌≡◌, Some};
 ghost use Rattle.refusal.specs.Table.{refusal_number, refusal_place};
+ghost use Rattle.refusal.specs.Text.{refusal_text};
 
 use std::fmt;
 
@@ -67,7 +68,10 @@ impl Refusal {
     }
 }
 
+// Its number and its place in decimal, as the programs print a refusal.
 impl fmt::Display for Refusal {
+    ghost output = { λ r. Some (refusal_text r) };
+
     fn fmt<W: fmt::Write>(&self, f: &mut fmt::Formatter<W>) -> fmt::Result {
         write!(f, "refused {} at {}", self.number(), self.place())
     }
