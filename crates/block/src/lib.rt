@@ -215,6 +215,18 @@ pub enum Reason {
     BadChunks = 5,
 }
 
+// The numbers of the reasons, by the names that programs may use: a verdict is a number in what nuvaskoe_packet_list and
+// nuvaskoe_block hold.
+pub const BAD_SIZE: u8 = Reason::BadSize as u8;
+
+pub const BAD_FLAG: u8 = Reason::BadFlag as u8;
+
+pub const BAD_RATE: u8 = Reason::BadRate as u8;
+
+pub const UNMEASURED: u8 = Reason::Unmeasured as u8;
+
+pub const BAD_CHUNKS: u8 = Reason::BadChunks as u8;
+
 // The number of a reason.
 impl From<Reason> for u8 {
     ghost from_gives = { λ reason number. number ≡ reason_number reason };
