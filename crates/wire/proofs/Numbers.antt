@@ -52,6 +52,10 @@ pub bytes_past : (n : ℕ) (s : List ℕ) (i : ℕ) → length s < i + n → rep
 unfolding bytes_in
 bytes_past n s i h = rw (lt-leb (i + n) (length s) h)
 
+-- the same of any number that is zero
+pub zeros_past : (n : ℕ) (s : List ℕ) (i zero : ℕ) → zero ≡ 0 → length s < i + n → replicate n zero ≡ bytes_in n s i
+zeros_past n s i zero is h = rw is (bytes_past n s i h)
+
 pub bytes_inside : (n : ℕ) (s : List ℕ) (i : ℕ) → i + n ≤ length s → bytes_in n s i ≡ take n (drop i s)
 unfolding bytes_in
 bytes_inside n s i h = rw (le-leb (i + n) (length s) h)

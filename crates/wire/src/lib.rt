@@ -19,17 +19,15 @@ pub fn u32_at(s: &[u8], i: usize) -> u32
     u32::from_be_bytes(bytes_at(s, i))
 }
 
-// The bytes from i on; zeros where they run past the end.
+// The bytes from i on; zeros where they run past the end. Of the two tests the first is of the slice alone, so that a loop over a slice
+// makes it once.
 fn bytes_at<const N: usize>(s: &[u8], i: usize) -> [u8; N]
     ensures { result ≡ bytes_in N s.now i }
 {
-    let Some(rest) = s.get(i..) else {
+    if s.len() < N || s.len() - N < i {
         return [0; N];
-    };
-    match rest.first_chunk() {
-        Some(bytes) => *bytes,
-        None => [0; N],
     }
+    *s[i..i + N].first_chunk().unwrap()
 }
 
 // Writes a 16-bit number whose first byte then stands at i.
