@@ -2,7 +2,7 @@
 // that could not take the count over the threshold even if nothing left is written in one step, any other packet by packet.
 #![tactic(auto)]
 
-ghost use Rattle.std.specs.Prelude.{◌≡◌, ◌++◌, ℕ, ◌+◌, ◌-◌, ◌<◌, ◌≤◌, length, get_or, drop};
+ghost use Rattle.std.specs.Prelude.{◌≡◌, ◌++◌, ℕ, ◌+◌, ◌-◌, ◌<◌, ◌≤◌, min, length, get_or, drop};
 ghost use Rattle.trace.specs.Sum.{sum, bit, count};
 ghost use Rattle.trace.specs.Trace.{trace_max};
 ghost use Rattle.resend.specs.Plans.{marked, marks};
@@ -16,6 +16,9 @@ ghost use Rattle.packed_plan.specs.Steps.{behind, cleared, Standing};
 use batch::Batches;
 use packed::WORD;
 use refusal::Refusal;
+
+// From so many losses of a word on the count mostly stands at the threshold.
+const MANY: usize = 12;
 
 // Behind some packets: the losses without a mark among the last `batch` of them, and how many marks were made.
 #[derive(Clone, Copy)]
@@ -81,7 +84,7 @@ impl Packed<'_> {
             marks += next.marks;
             i += WORD;
         }
-        let rest = self.fill_each(out, i, self.packets, left);
+        let rest = self.fill_each::<false>(out, i, self.packets, left);
         marks + rest.marks
     }
 
@@ -93,7 +96,10 @@ impl Packed<'_> {
         let size = self.batches.size;
         let enters = packed::ones_among(self.words, i, WORD);
         if self.batches.threshold < left + enters {
-            return self.fill_each(out, i, i + WORD, left);
+            if MANY <= enters {
+                return self.fill_each::<true>(out, i, i + WORD, left);
+            }
+            return self.fill_each::<false>(out, i, i + WORD, left);
         }
         clear(out, i);
         if left + enters == 0 {
@@ -110,17 +116,24 @@ impl Packed<'_> {
 
     // The packets from packet i up to `end`, no more than a word of them, one by one. A loss is marked when `threshold` without a
     // mark already stand among the `size` - 1 packets before it: with it they would be one more.
-    fn fill_each(&self, out: &mut [u8], i: usize, end: usize, running: usize) -> Filled
+    fn fill_each<const DENSE: bool>(
+        &self,
+        out: &mut [u8],
+        i: usize,
+        end: usize,
+        running: usize,
+    ) -> Filled
         requires { Standing (one_in self.now.words.now) self.now.batches.size self.now.batches.threshold self.now.packets out.old running i × (i ≤ end) × (end ≤ self.now.packets) × (end ≤ i + word_bits) }
         ensures { Filling (one_in self.now.words.now) self.now.batches.size self.now.batches.threshold self.now.packets out.old out.new result.left (count (marked (plan_of (one_in self.now.words.now) self.now.batches.size self.now.batches.threshold self.now.packets)) 0 i + result.marks) end }
     {
         let mut enters = packed::window(self.words, i);
         let mut leaves = self.gone(i);
+        let threshold = self.batches.threshold;
         let mut left = running;
         let mut marks = 0;
         for next in i..end {
             let held = self.slide(out, next, left, leaves % 2) + (enters % 2) as usize;
-            left = held.min(self.batches.threshold);
+            left = kept::<DENSE>(held, threshold);
             out[next] = (held - left) as u8;
             marks += held - left;
             enters /= 2;
@@ -156,6 +169,18 @@ impl Packed<'_> {
             return 0;
         }
         packed::window(self.words, 0) << ahead
+    }
+}
+
+// What is kept of a count without marks. Both are the lesser of two, and each is compiled to a branch on what `min` asks, whether its
+// argument is the less: where losses are many few counts are below the threshold, elsewhere few are above it.
+fn kept<const DENSE: bool>(held: usize, threshold: usize) -> usize
+    ensures { result ≡ min held threshold }
+{
+    if DENSE {
+        threshold.min(held)
+    } else {
+        held.min(threshold)
     }
 }
 

@@ -55,7 +55,8 @@ fn fill_for(event: Event, s: &[u8], batches: Batches, out: &mut [u8]) -> usize
 
 // The plan of the packets that a test counts, and the number of its marks. A counted packet is marked when `threshold`
 // without a mark already stand among the `size` - 1 packets before it; `left` is the running count. It branches on a counted packet:
-// without the branch a plan with a batch of 1 waits for the mark that it has just stored, and takes 1.4 times as long.
+// without the branch a plan with a batch of 1 waits for the mark that it has just stored, and takes 1.4 times as long. `min` branches on
+// whether its argument is the less, as the count with one more seldom is where losses are many.
 fn fill<C: Fn(u8) -> bool>(counts: C, s: &[u8], batches: Batches, out: &mut [u8]) -> usize
     ghost lost: { ℕ → Bool }
     requires callable { C.IsAlwaysCallable counts }
@@ -69,7 +70,7 @@ fn fill<C: Fn(u8) -> bool>(counts: C, s: &[u8], batches: Batches, out: &mut [u8]
     for at in 0..s.len() {
         let before = slide(&counts, s, out, batches.size, at, left);
         if counts(s[at]) {
-            left = (before + 1).min(batches.threshold);
+            left = batches.threshold.min(before + 1);
             out[at] = (before + 1 - left) as u8;
             marks += before + 1 - left;
         } else {

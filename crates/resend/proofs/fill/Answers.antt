@@ -30,7 +30,7 @@ overflow_sub-out g c = omega (arith, c.min-left.ensures)
 
 pub overflow_cast-out : goal.overflow_cast-out
 overflow_cast-out g c =
-    let one : c.slide-before.result + 1 - c.min-left.result ≤ 1 = mark_small _ _ _ _ _ _ _ _ _ c.loop-at.invariant _ c.slide-before.ensures _ c.min-left.ensures in
+    let one : c.slide-before.result + 1 - c.min-left.result ≤ 1 = mark_small _ _ _ _ _ _ _ _ _ c.loop-at.invariant _ c.slide-before.ensures _ (omega (arith, c.min-left.ensures)) in
     omega (arith, one)
 
 pub bounds-out-at : goal.bounds-out-at
@@ -49,7 +49,7 @@ overflow_sub-marks g c = omega (arith, c.min-left.ensures)
 pub overflow_add-marks-then-counts : goal.overflow_add-marks-then-counts
 overflow_add-marks-then-counts g c =
     let few_marks : c.loop-at.marks ≤ c.loop-at.at = filling_small _ _ _ _ _ _ _ _ _ c.loop-at.invariant in
-    let one : c.slide-before.result + 1 - c.min-left.result ≤ 1 = mark_small _ _ _ _ _ _ _ _ _ c.loop-at.invariant _ c.slide-before.ensures _ c.min-left.ensures in
+    let one : c.slide-before.result + 1 - c.min-left.result ≤ 1 = mark_small _ _ _ _ _ _ _ _ _ c.loop-at.invariant _ c.slide-before.ensures _ (omega (arith, c.min-left.ensures)) in
     omega (arith, few_marks, one)
 
 pub bounds-out-at-else-counts : goal.bounds-out-at-else-counts
@@ -60,7 +60,7 @@ bounds-out-at-else-counts g c =
 pub loop-at-preserved : goal.loop-at-preserved
 loop-at-preserved g c =
     elim c.if-counts.branch [
-      | then-counts w ↦ rw (w.out-is, w.left-is, w.marks-is) (enters_lost _ _ _ _ _ _ _ _ _ c.loop-at.invariant _ c.slide-before.ensures c.loop-at-test.true (sym (c.requires.1.1.0 _ _ c.loop-at-test.true c.counts.ensures) ∙ w.if-counts.true) _ w.min-left.ensures)
+      | then-counts w ↦ rw (w.out-is, w.left-is, w.marks-is) (enters_lost _ _ _ _ _ _ _ _ _ c.loop-at.invariant _ c.slide-before.ensures c.loop-at-test.true (sym (c.requires.1.1.0 _ _ c.loop-at-test.true c.counts.ensures) ∙ w.if-counts.true) _ (omega (arith, w.min-left.ensures)))
       | else-counts w ↦ rw (w.out-is, w.left-is, w.marks-is) (enters_fine _ _ _ _ _ _ _ _ _ c.loop-at.invariant _ c.slide-before.ensures c.loop-at-test.true (sym (c.requires.1.1.0 _ _ c.loop-at-test.true c.counts.ensures) ∙ w.if-counts.false))
     ]
 
