@@ -26,7 +26,8 @@ use Rattle.packing.specs.Packing.{words_of, pack_answer}
 use Rattle.ffi_answer.specs.declared.RefusalFields.{RefusalFields}
 use Rattle.ffi_answer.specs.Answers.{none, refusal_out, written_out}
 use Rattle.ffi_card.specs.Answers.{card_out}
-use Rattle.ffi_packet.specs.Answers.{packet_out, block_out, compared_out}
+use Rattle.ffi_block.specs.Answers.{block_out}
+use Rattle.ffi_packet.specs.Answers.{packet_out, compared_out}
 use Rattle.ffi_figures.specs.Answers.{figures_out, figures_by}
 use Rattle.ffi_tally.specs.declared.TallyNumbers.{TallyNumbers}
 use Rattle.ffi_tally.specs.Answers.{tally_with, tally_in, opened_out, answer_out}

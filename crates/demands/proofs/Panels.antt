@@ -26,8 +26,7 @@ use Rattle.dials.specs.Laws.{needles}
 use Rattle.dials.proofs.Value.{position_value, position_bits}
 use Rattle.dials.proofs.Order.{position_ends, position_range, position_order}
 use Rattle.dials.proofs.Panels.{lit, unlit, needle_tells, typed_shown, lamp_off_exactly}
-use Rattle.ffi_block.specs.Answers.{read_out}
-use Rattle.ffi_packet.specs.Answers.{block_out}
+use Rattle.ffi_block.specs.Answers.{read_out, block_out}
 use Rattle.ffi_panel.specs.Answers.{panel_in}
 use Rattle.ffi_panel.proofs.Panels.{no_summary_lem, panel_of_read}
 use Rattle.demands.specs.Panels.{InPacket, PanelsShown}

@@ -17,7 +17,8 @@ use Rattle.packed.specs.Words.{words_for}
 use Rattle.ffi_answer.specs.declared.RefusalFields.{RefusalFields}
 use Rattle.ffi_answer.specs.Answers.{none, refusal_out, written_out}
 use Rattle.ffi_card.specs.Answers.{card_out}
-use Rattle.ffi_packet.specs.Answers.{packet_out, block_out, compared_out}
+use Rattle.ffi_block.specs.Answers.{block_out}
+use Rattle.ffi_packet.specs.Answers.{packet_out, compared_out}
 use Rattle.ffi_figures.specs.Answers.{figures_by}
 use Rattle.ffi_tally.specs.declared.TallyNumbers.{TallyNumbers}
 use Rattle.ffi_tally.specs.Answers.{tally_in, tally_out}

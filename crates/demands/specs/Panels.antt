@@ -13,7 +13,7 @@ use Rattle.dials.specs.Position.{position}
 use Rattle.dials.specs.declared.Needle.TheVariants.{Lit, Dark}
 use Rattle.dials.specs.Panel.{needle_of, dark, panel_of, panel_at}
 use Rattle.dials.specs.Laws.{PositionValue, PositionBits, PositionEnds, PositionRange, PositionOrder, NeedleTells, needles, LampOffExactly}
-use Rattle.ffi_packet.specs.Answers.{block_out}
+use Rattle.ffi_block.specs.Answers.{block_out}
 use Rattle.ffi_panel.specs.Answers.{panel_in}
 use Rattle.ffi_panel.specs.Laws.{PanelOfRead}
 use Rattle.block.specs.declared.Reason.{Reason}

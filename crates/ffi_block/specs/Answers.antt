@@ -1,5 +1,7 @@
--- What the boundary's struct holds for each answer about one block: its verdict as crate verdict numbers it, and its fields.
-use Rattle.std.specs.Prelude.{ℕ, List, [], ◌∷◌, ◌++◌, replicate, take, drop}
+-- What the boundary's struct holds for each answer about one block: its verdict as crate verdict numbers it, and its fields; and
+-- where the call refused, the paper's number and place.
+use Rattle.std.specs.Prelude.{ℕ, List, [], ◌∷◌, ◌++◌, replicate, take, drop, Result, Ok, Err}
+use Rattle.refusal.specs.declared.Refusal.{Refusal}
 use Rattle.block.specs.Fields.{fields_of}
 use Rattle.block.specs.Layouts.{covered}
 use Rattle.block.specs.declared.LossRle.{LossRle}
@@ -7,8 +9,9 @@ use Rattle.block.specs.declared.Block.{Block}
 use Rattle.block.specs.declared.Block.TheVariants.{Measured, Loss, Discard, Effective, Streams}
 use Rattle.block.specs.declared.BlockRead.{BlockRead}
 use Rattle.block.specs.declared.BlockRead.TheVariants.{Typed, Rle, Unknown, Dropped}
+use Rattle.packet.specs.declared.BlockAt.{BlockAt}
 use Rattle.verdict.specs.Verdict.{verdict_of}
-use Rattle.ffi_answer.specs.Answers.{none}
+use Rattle.ffi_answer.specs.Answers.{none, refusal_out}
 use Rattle.ffi_block.specs.declared.BlockFields.{BlockFields}
 
 -- thirteen numbers, none of them a field
@@ -39,3 +42,8 @@ read_fields (Dropped reason) = no_fields
 
 abbrev pub read_out : ℕ → BlockRead → BlockFields
 read_out kind r = record { refusal = none; block_type = kind; verdict = verdict_of r; fields = read_fields r }
+
+-- refused: unknown, since 0 would read as typed
+abbrev pub block_out : Result BlockAt Refusal → BlockFields
+block_out (Ok found) = read_out found.kind found.read
+block_out (Err r) = record { refusal = refusal_out r; block_type = 0; verdict = verdict_of Unknown; fields = no_fields }

@@ -4,11 +4,12 @@
 ghost use Rattle.std.specs.Prelude.{◌≡◌, ◌++◌, ◌≤◌, length, take};
 ghost use Rattle.block.specs.Reading.{read_block};
 ghost use Rattle.block.specs.declared.Block.TheVariants.{Measured, Streams};
-ghost use Rattle.ffi_block.specs.Answers.{no_fields, fields_out, rle_out, read_out};
+ghost use Rattle.ffi_block.specs.Answers.{no_fields, fields_out, rle_out, read_out, block_out};
 
 use block::{Block, BlockRead, LossRle, Measurement, StreamCounts};
 use ffi_answer::{NONE, RefusalFields};
 use packet::BlockAt;
+use refusal::Refusal;
 
 // How many numbers the fields of any block take.
 pub const FIELDS: usize = 13;
@@ -25,6 +26,9 @@ pub struct BlockFields {
 }
 
 pub const NO_FIELDS: [u32; FIELDS] = [0; FIELDS];
+
+// Of a refused call: 0 would read as typed.
+const NO_VERDICT: u32 = verdict::UNKNOWN as u32;
 
 // So many fields, with zeros behind.
 fn padded(fields: &[u32]) -> [u32; FIELDS]
@@ -124,6 +128,23 @@ impl From<BlockAt> for BlockFields {
             block_type: found.kind as u32,
             verdict: verdict as u32,
             fields,
+        }
+    }
+}
+
+// What a call on a packet answers about one block, or why it said no.
+impl From<Result<BlockAt, Refusal>> for BlockFields {
+    ghost from_gives = { λ block fields. fields ≡ block_out block };
+
+    fn from(block: Result<BlockAt, Refusal>) -> BlockFields {
+        match block {
+            Ok(found) => found.into(),
+            Err(why) => BlockFields {
+                refusal: why.into(),
+                block_type: 0,
+                verdict: NO_VERDICT,
+                fields: NO_FIELDS,
+            },
         }
     }
 }

@@ -1,12 +1,7 @@
 -- What the boundary's structs hold for each answer about a packet: the paper's number and place where the call
 -- refused, 0 and 0 where it answered; and the values, 0 where it refused.
-use Rattle.block.specs.declared.BlockRead.TheVariants.{Unknown}
-use Rattle.verdict.specs.Verdict.{verdict_of}
 use Rattle.packet.specs.declared.PacketHead.{PacketHead}
-use Rattle.packet.specs.declared.BlockAt.{BlockAt}
 use Rattle.ffi_answer.specs.Answers.{none, refusal_out}
-use Rattle.ffi_block.specs.declared.BlockFields.{BlockFields}
-use Rattle.ffi_block.specs.Answers.{no_fields, read_out}
 use Rattle.ffi_packet.specs.declared.Packet.{Packet}
 use Rattle.ffi_packet.specs.declared.Comparison.{Comparison}
 use Rattle.std.specs.Prelude.{Result, Ok, Err, ℕ}
@@ -15,11 +10,6 @@ use Rattle.refusal.specs.declared.Refusal.{Refusal}
 abbrev pub packet_out : Result PacketHead Refusal → Packet
 packet_out (Ok head) = record { refusal = none; sender = head.sender; blocks = head.blocks }
 packet_out (Err r) = record { refusal = refusal_out r; sender = 0; blocks = 0 }
-
--- refused: unknown, since 0 would read as typed
-abbrev pub block_out : Result BlockAt Refusal → BlockFields
-block_out (Ok found) = read_out found.kind found.read
-block_out (Err r) = record { refusal = refusal_out r; block_type = 0; verdict = verdict_of Unknown; fields = no_fields }
 
 abbrev pub compared_out : Result ℕ Refusal → Comparison
 compared_out (Ok n) = record { refusal = none; differences = n }

@@ -8,7 +8,8 @@ ghost use Rattle.packet.specs.Answers.{head_of, block_of, part_of};
 ghost use Rattle.survey.specs.Survey.{list_of, list_answer};
 ghost use Rattle.compare.specs.Answer.{compare_answer, list_after};
 ghost use Rattle.ffi_answer.specs.Answers.{written_out};
-ghost use Rattle.ffi_packet.specs.Answers.{packet_out, block_out, compared_out};
+ghost use Rattle.ffi_block.specs.Answers.{block_out};
+ghost use Rattle.ffi_packet.specs.Answers.{packet_out, compared_out};
 
 use ffi_answer::{NONE, RefusalFields, WrittenSize};
 use ffi_block::BlockFields;
@@ -33,9 +34,6 @@ pub struct Comparison {
     pub refusal: RefusalFields,
     pub differences: usize, // how many there are, of five numbers each; 0 where refused
 }
-
-// Of a refused call: 0 would read as typed.
-const NO_VERDICT: u32 = verdict::UNKNOWN as u32;
 
 impl From<Result<PacketHead, Refusal>> for Packet {
     ghost from_gives = { λ head packet. packet ≡ packet_out head };
@@ -86,15 +84,7 @@ pub extern "C" fn nuvaskoe_packet_read(packet: &[u8]) -> Packet
 pub extern "C" fn nuvaskoe_packet_block(packet: &[u8], index: usize) -> BlockFields
     ensures { result ≡ block_out (block_of (packet_of packet.now) index) }
 {
-    match packet::block(packet, index) {
-        Ok(found) => found.into(),
-        Err(why) => BlockFields {
-            refusal: why.into(),
-            block_type: 0,
-            verdict: NO_VERDICT,
-            fields: ffi_block::NO_FIELDS,
-        },
-    }
+    packet::block(packet, index).into()
 }
 
 // Where the body of block number index lies in the packet: the words after the block's first. Start 0 and length 0

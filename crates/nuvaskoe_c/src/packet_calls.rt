@@ -7,7 +7,8 @@ ghost use Rattle.packet.specs.Answers.{head_of, block_of, part_of};
 ghost use Rattle.survey.specs.Survey.{list_of, list_answer};
 ghost use Rattle.compare.specs.Answer.{compare_answer, list_after};
 ghost use Rattle.ffi_answer.specs.Answers.{written_out};
-ghost use Rattle.ffi_packet.specs.Answers.{packet_out, block_out, compared_out};
+ghost use Rattle.ffi_block.specs.Answers.{block_out};
+ghost use Rattle.ffi_packet.specs.Answers.{packet_out, compared_out};
 
 use ffi_answer::WrittenSize;
 use ffi_block::BlockFields;
