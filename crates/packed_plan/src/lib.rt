@@ -17,7 +17,7 @@ use batch::Batches;
 use packed::WORD;
 use refusal::Refusal;
 
-// From so many losses of a word on the count mostly stands at the threshold.
+// So many losses of a word are many, whatever the threshold.
 const MANY: usize = 12;
 
 // Behind some packets: the losses without a mark among the last `batch` of them, and how many marks were made.
@@ -96,7 +96,10 @@ impl Packed<'_> {
         let size = self.batches.size;
         let enters = packed::ones_among(self.words, i, WORD);
         if self.batches.threshold < left + enters {
-            if MANY <= enters {
+            // Of every `size` packets as many losses stay without a mark as the threshold says. Where more than these get one, or losses
+            // are many, most counts stand at the threshold.
+            let unmarked = (2 * WORD).saturating_mul(self.batches.threshold);
+            if MANY <= enters || unmarked < enters.saturating_mul(size) {
                 return self.fill_each::<true>(out, i, i + WORD, left);
             }
             return self.fill_each::<false>(out, i, i + WORD, left);
@@ -173,7 +176,7 @@ impl Packed<'_> {
 }
 
 // What is kept of a count without marks. Both are the lesser of two, and each is compiled to a branch on what `min` asks, whether its
-// argument is the less: where losses are many few counts are below the threshold, elsewhere few are above it.
+// argument is the less: where most losses get a mark few counts are below the threshold, elsewhere few are above it.
 fn kept<const DENSE: bool>(held: usize, threshold: usize) -> usize
     ensures { result ≡ min held threshold }
 {
