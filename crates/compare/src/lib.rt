@@ -295,7 +295,7 @@ fn good_summary(z: &[u8], size: usize) -> bool
     block::summary_good(z[1] / 64, wire::u16_at(z, 8), wire::u16_at(z, 10))
 }
 
-// Whether two blocks have the same bytes. By words, which are four bytes a step: slices are compared byte by byte.
+// Whether two blocks have the same bytes. By words, which are four bytes a step.
 fn same_blocks(x: &[u8], y: &[u8]) -> bool
     requires { Whole x.now × Whole y.now }
     ensures { result ≡ same_numbers x.now y.now }
