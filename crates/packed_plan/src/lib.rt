@@ -118,7 +118,9 @@ impl Packed<'_> {
     }
 
     // The packets from packet i up to `end`, no more than a word of them, one by one. A loss is marked when `threshold` without a
-    // mark already stand among the `size` - 1 packets before it: with it they would be one more.
+    // mark already stand among the `size` - 1 packets before it: with it they would be one more. Never inlined: within the loop over
+    // words it would take the registers that words without a loss need.
+    #[inline(never)]
     fn fill_each<const DENSE: bool>(
         &self,
         out: &mut [u8],
